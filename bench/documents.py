@@ -38,7 +38,7 @@ MARKDOWN = ("README.md", "docs/OPERATING.md", "docs/FORMATS.md")
 
 # The commands that are typed, alone or beside others, as regular expressions. None changes anything outside of the tree.
 TYPED = (
-    r"(\./|/usr/bin/|crates/xp/out/)?xp (check|explain|replay|serve|status|stop|--help|--version)\b.*",
+    r"(\./|/usr/bin/|crates/xp/out/)?xp (check|explain|replay|serve|status|stop|reload|--help|--version)\b.*",
     r"python3 (examples/)?(client|host|router)\.py .*",
     r"(awk|cat|cd|cp|echo|exec|grep|head|install|jq|less|ln|ls|man|mkdir|mkfifo|scp|sha256sum|sort|sqlite3|ssh|tail|umask|wc)( .*)?",
     r"rt (doc|version)",
@@ -55,7 +55,7 @@ NOT_TYPED = {
     r"tools/package\.sh": "it takes a proved program; package.py types it",
     r"python3 bench/package\.py": "./test runs it",
     r"apt (install (\./gonukire_VERSION_amd64\.deb|keepalived)|remove gonukire)": "it changes the machine; package.py installs the package in a folder",
-    r"systemctl ((enable --now|edit|restart|start|status|stop) xp|stop)": "it takes root and systemd; package.py has systemd-analyze read the unit",
+    r"systemctl ((enable --now|edit|reload|restart|start|status|stop) xp|stop)": "it takes root and systemd; package.py has systemd-analyze read the unit",
     r"systemctl (enable|restart) keepalived": "it takes root and systemd; serve/two_machines.py starts keepalived itself",
     r"keepalived --config-test": "it takes root; serve/two_machines.py runs examples/keepalived.conf",
     r"sysctl --system": "it takes root, and changes the machine",
@@ -71,6 +71,7 @@ REPLACED = {
     "FILE CALLER DIALLED": "examples/three-stations.toml a1 2080020",
     "FILE": "examples/three-stations.toml",
     "ADDRESS": "127.0.0.1:9980",
+    "new.toml --after old.toml": "examples/three-stations.toml --after examples/three-stations.toml",
     "python3 host.py 192.0.2.1": "python3 examples/host.py 127.0.0.1",
 }
 
@@ -98,9 +99,33 @@ address = "2080020"
 line = [{ name = "b1", port = "x" }]
 """
 
+# The file examples/three-stations.toml with other addresses, rights and groups, and with another modulus.
+CHANGED = """[[station]]
+address = "2080011"
+line = [{ name = "a1", port = 19981 }]
+
+[[station]]
+address = "2080020"
+fast_select = true
+outgoing_barred = true
+group = [{ name = "trade", index = 1 }]
+line = [{ name = "b1", port = 19982 }]
+
+[[station]]
+address = "2080030"
+line = [
+  { name = "h1", port = 19983 },
+  { name = "h2", port = 19984, address = "2080032" },
+  { name = "h3", port = 19985 },
+]
+"""
+OTHER_MODULUS = CHANGED.replace("port = 19982", "port = 19982, modulus = 128")
+
 # What prints the blocks that no command of their document prints, by the document and their first words: a command, and its input.
 PRINTED_BY = {
     ("docs/OPERATING.md", "xp: explain: a line that is named"): ("xp explain examples/three-stations.toml 2080030 2080020", ""),
+    ("docs/OPERATING.md", "stations 3 lines 5 groups 1"): ("xp check - --after examples/three-stations.toml", CHANGED),
+    ("docs/OPERATING.md", "needs a stop: line b1"): ("xp check - --after examples/three-stations.toml", OTHER_MODULUS),
     ("docs/FORMATS.md", "xp: subscriptions: field port"): ("xp check -", NO_PORT),
     ("docs/FORMATS.md", "xp: script line 3"): ("xp replay examples/three-stations.toml", "up a1\n\nup x9\n"),
     ("docs/FORMATS.md", "12  a1 → exchange"): ("xp replay examples/three-stations.toml --words", CALL_OF_A_MINUTE),

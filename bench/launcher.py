@@ -128,13 +128,14 @@ def output_of(name, *words, given=""):
     return name + "\n" + "".join(f"[{word}]\n" for word in words) + given
 
 
-def serve_until_terminated(tree, *words, **wanted):
-    """Starts serving, sends a signal to the launcher once the program runs, and returns the status, the output and what was told."""
+def serve_until_terminated(tree, *words, before=(), **wanted):
+    """Starts serving, sends signals to the launcher once the program runs, and returns the status, the output and what was told."""
     launcher = tree.start(*words, **wanted)
     select.select([launcher.stdout], [], [], LIMIT)
     # The launcher takes signals from the moment at which the program is started.
-    time.sleep(PAUSE)
-    launcher.send_signal(signal.SIGTERM)
+    for number in (*before, signal.SIGTERM):
+        time.sleep(PAUSE)
+        launcher.send_signal(number)
     try:
         output, told = launcher.communicate(timeout=LIMIT)
     except subprocess.TimeoutExpired:
@@ -249,9 +250,15 @@ def serve_gets_the_launchers_word_behind_its_own(tree):
         yield serve_until_terminated(tree, "serve", *words), (0, output_of("proved", "serve", *wanted, given=TOLD_OF_SIGNAL), "")
 
 
+def serve_asks_for_a_reload_by_a_signal(tree):
+    tree.run("prove")
+    wanted = output_of("proved", "serve", "f", "--until-eof", given="reload\nreload\n" + TOLD_OF_SIGNAL)
+    yield serve_until_terminated(tree, "serve", "f", before=(signal.SIGUSR1, signal.SIGUSR1)), (0, wanted, "")
+
+
 def serve_without_a_file_has_no_word_of_the_launcher(tree):
     tree.run("prove")
-    options = ("--cdr", "--console", "--name", "--records", "--trace", "--trace-lines", "--turns")
+    options = ("--cdr", "--cdr-dir", "--console", "--live", "--name", "--records", "--trace", "--trace-lines", "--turns")
     for words in ((), ("--help",), ("--quiet", "--"), *((option, "x") for option in options), *((option,) for option in options)):
         yield tree.run("serve", *words, status=2), (2, output_of("proved", "serve", *words), "")
     yield tree.run("--unproved", "serve", status=2)[:2], (2, output_of("unproved", "serve"))
@@ -354,6 +361,7 @@ CASES = (
     two_at_once_build_once,
     proved_is_run,
     serve_gets_the_launchers_word_behind_its_own,
+    serve_asks_for_a_reload_by_a_signal,
     serve_without_a_file_has_no_word_of_the_launcher,
     proved_that_is_older_is_run,
     younger_source_is_named,

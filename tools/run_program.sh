@@ -5,7 +5,7 @@ names_a_file() {
   while [ $# != 0 ]; do
     case $1 in
       --) [ $# -gt 1 ]; return ;;
-      --cdr | --console | --name | --records | --trace | --trace-lines | --turns) shift ;;
+      --cdr | --cdr-dir | --console | --live | --name | --records | --trace | --trace-lines | --turns) shift ;;
       -?*) ;;
       *) return 0 ;;
     esac
@@ -15,7 +15,8 @@ names_a_file() {
 }
 
 # Serves with its own pipe as the program's standard input. The program is started with the signals ignored: of the first one the pipe
-# tells, and it is closed, which stops the program cleanly; the second kills it. The launcher's own word stands behind the others, so that the program
+# tells, and it is closed, which stops the program cleanly; the second kills it. SIGUSR1 has the program read its subscription file
+# again: a line in the pipe asks for that. The launcher's own word stands behind the others, so that the program
 # does not show it where it refuses one of these.
 serve_until_signal() {
   local program=$1 child status words=()
@@ -25,11 +26,12 @@ serve_until_signal() {
     shift
   done
   words+=(--until-eof "$@")
-  exec {pipe}> >(trap '' INT TERM HUP && exec "$program" serve "${words[@]}")
+  exec {pipe}> >(trap '' INT TERM HUP USR1 && exec "$program" serve "${words[@]}")
   child=$!
   trap 'stop_serving INT' INT
   trap 'stop_serving TERM' TERM
   trap 'stop_serving HUP' HUP
+  trap ask_to_reload USR1
   # The program may have ended by then.
   trap '' PIPE
   signalled=yes
@@ -51,6 +53,11 @@ stop_serving() {
   else
     kill -KILL "$child"
   fi
+}
+
+ask_to_reload() {
+  signalled=yes
+  [ -z "${pipe-}" ] || echo reload >&"$pipe" 2> /dev/null
 }
 
 run() {

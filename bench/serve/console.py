@@ -52,6 +52,12 @@ ANSWERS = (
     (b"POST /stop HTTP/1.1\r\nHost: localhost\r\nContent-Length: 0\r\n\r\n", b"HTTP/1.1 403 "),
     (b"POST /stop HTTP/1.1\r\nHost: localhost\r\nX-Gonukire: Stop\r\nContent-Length: 0\r\n\r\n", b"HTTP/1.1 403 "),
     (b"POST /stop HTTP/1.1\r\nHost: evil.example\r\nX-Gonukire: stop\r\nContent-Length: 0\r\n\r\n", b"HTTP/1.1 421 "),
+    (b"GET /reload HTTP/1.1\r\nHost: localhost\r\nX-Gonukire: reload\r\n\r\n", b"HTTP/1.1 405 "),
+    (b"POST /reload HTTP/1.1\r\nHost: localhost\r\nContent-Length: 0\r\n\r\n", b"HTTP/1.1 403 "),
+    (b"POST /reload HTTP/1.1\r\nHost: localhost\r\nX-Gonukire: stop\r\nContent-Length: 0\r\n\r\n", b"HTTP/1.1 403 "),
+    (b"POST /stop HTTP/1.1\r\nHost: localhost\r\nX-Gonukire: reload\r\nContent-Length: 0\r\n\r\n", b"HTTP/1.1 403 "),
+    (b"POST /reload HTTP/1.1\r\nHost: localhost\r\nX-Gonukire: reload\r\nContent-Length: 4\r\n\r\nfile", b"HTTP/1.1 400 "),
+    (b"POST /reload HTTP/1.1\r\nHost: evil.example\r\nX-Gonukire: reload\r\nContent-Length: 0\r\n\r\n", b"HTTP/1.1 421 "),
     (b"GET /hea", b"HTTP/1.1 400 "),
 )
 
@@ -140,7 +146,7 @@ class ShownRouter(Shown):
 
 
 def answers(program, folder):
-    """26 requests with right and wrong hosts, methods, paths and headers, half a request, a head of 64 KiB: each has its answer."""
+    """32 requests with right and wrong hosts, methods, paths and headers, half a request, a head of 64 KiB: each has its answer."""
     with Shown(program, folder) as exchange:
         for request, wanted in ANSWERS:
             came = ask(exchange, request, ends=not request.endswith(b"\r\n\r\n"))
@@ -148,6 +154,8 @@ def answers(program, folder):
         require(ask(exchange, ANSWERS[1][0]).endswith(b"\r\n\r\n"), "HEAD is answered a body")
         came = ask(exchange, b"PUT / HTTP/1.1\r\nHost: localhost\r\nContent-Length: 0\r\n\r\n")
         require(b"\r\nallow: GET, HEAD\r\n" in came, f"PUT is answered {came}")
+        came = ask(exchange, b"PUT /reload HTTP/1.1\r\nHost: localhost\r\nContent-Length: 0\r\n\r\n")
+        require(b"\r\nallow: POST\r\n" in came, f"PUT is answered {came}")
         came = ask(exchange, b"GET / HTTP/1.1\r\nHost: localhost\r\nX: " + 65_536 * b"a")
         require(came.startswith(b"HTTP/1.1 431 "), f"a head of 64 KiB is answered {came[:200]}")
         require("stopping" not in exchange.told(), "the exchange is stopping")
@@ -259,7 +267,7 @@ def wanted_status(came, a1, h1):
              "connected": ended["connected"], "dialled": "200003", "ended": ended["ended"], "number": 2, "payer": "caller",
              "requested": ended["requested"], "seconds": ended["seconds"], "segments": {"from_called": 1, "from_caller": 2}},
         ],
-        "started": came["started"],
+        "reloads": {"done": 0, "last": None, "refused": 0}, "started": came["started"],
         "stations": [
             {"address": "200001", "from": 2, "refused": 1, "to": 0}, {"address": "200002", "from": 0, "refused": 0, "to": 0},
             {"address": "200003", "from": 0, "refused": 0, "to": 1},

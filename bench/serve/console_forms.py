@@ -19,6 +19,7 @@ METRICS = (
     ("stalls_total", "counter", "Lines taken out of service for not taking their output."),
     ("records_waiting", "gauge", "Records of ended calls that are not written yet."),
     ("partial_records", "gauge", "Calls of the run before that got a partial record."),
+    ("reloads_total", "counter", "Reloads of the subscription file, by what became of them."),
 )
 
 
@@ -45,6 +46,7 @@ def wanted_metrics(status):
         "stalls_total": [("", totals["stalls"])],
         "records_waiting": [("", totals["records_waiting"])],
         "partial_records": [("", totals["partial_records"])],
+        "reloads_total": [('{result="%s"}' % result, status["reloads"][result]) for result in ("done", "refused")],
     }
     return "".join(
         f"# HELP gonukire_{name} {words}\n# TYPE gonukire_{name} {kind}\n"

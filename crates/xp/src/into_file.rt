@@ -2,7 +2,7 @@
 
 ghost use Rattle.std.specs.Prelude.{◌≡◌, ◌≤◌, [], IfOk, IfSome, OnErr};
 ghost use Rattle.xp_keeping.specs.Details.{AreKept, GoesOnAs, Keeping};
-ghost use Rattle.xp_keeping.specs.Queued.{AreKeptBeside, KeepsBeside, Queued, first_queued};
+ghost use Rattle.xp_keeping.specs.Queued.{AreKeptBeside, KeepsBeside, Queued};
 ghost use Rattle.xp_serve.specs.LeftAlone.{LeavesAlone};
 ghost use Rattle.xp_serve.specs.Serving.{Serves};
 
@@ -22,9 +22,7 @@ use xp_arguments::ServeOrder;
 use xp_cdr::{DetailFile, ExchangeName, ExchangeRun, RecordFile, path_in};
 use xp_clock::WallClock;
 use xp_days::{DayFiles, day_of, file_before, newest_file, open_newest};
-use xp_keeping::{
-    DetailKeeper, KeepFault, OperatorLog, PatientOutput, QueuedKeeper, start_details,
-};
+use xp_keeping::{DetailKeeper, OperatorLog, PatientOutput, QueuedKeeper, start_details};
 use xp_listening::ServeFailure;
 use xp_readiness::{Failure, Tracing};
 use xp_serve::{ServeEnd, settle};
@@ -55,7 +53,6 @@ pub(crate) fn serve_into_file<
     subs: CopiedSubs,
 ) -> Result<(), Failure>
     requires names { subs.names ≡ subs.own }
-    requires spare { subs.spare ≡ subs.own }
     requires live { subs.live ≡ subs.own }
 {
     let live = path_of_live(rt.alloc(), path)?;
@@ -104,7 +101,6 @@ pub(crate) fn serve_into_directory<
     subs: CopiedSubs,
 ) -> Result<(), Failure>
     requires names { subs.names ≡ subs.own }
-    requires spare { subs.spare ≡ subs.own }
     requires live { subs.live ≡ subs.own }
 {
     let today = day_of(clock.seconds());
@@ -192,7 +188,6 @@ fn serve_with_details<
     output: &mut W,
 ) -> Result<Result<(), ServeFailure>, Failure>
     requires names { subs.names ≡ subs.own }
-    requires spare { subs.spare ≡ subs.own }
     requires live { subs.live ≡ subs.own }
     requires taken { F.taken details.file ≡ [] }
     requires synced { F.synced details.file ≡ [] }
@@ -204,8 +199,8 @@ fn serve_with_details<
     let CopiedSubs {
         own,
         names,
-        spare,
         live: told_by,
+        file: subscription_file,
     } = subs;
     let DetailsOfRun {
         file,
@@ -214,10 +209,12 @@ fn serve_with_details<
         live,
     } = details;
     let tracing = Tracing::begin(rt, order, clock, &own)?;
-    let beside = live.beside(rt, clock, told_by, &run, tracing)?;
-    let keeper = DetailKeeper::new(rt.alloc(), file, names, run.copy(), clock, log);
+    let begun = Beside::new(tracing, subscription_file);
+    let beside = live.kept_in(rt, clock, told_by, &run, begun)?;
+    let keeper = DetailKeeper::new(rt.alloc(), file, run.copy(), clock, log);
+    let keeper = start_details(*rt, rt.alloc(), names, keeper)?;
     let end = attend_details(rt, order, clock, own, beside, keeper)?;
-    Ok(settle(rt.alloc(), &spare, &run, end, output))
+    Ok(settle(rt.alloc(), &run, end, output))
 }
 
 /// Serves the lines, with this keeper of call detail records on a thread of its own.
@@ -241,14 +238,13 @@ fn attend_details<
     clock: WallClock,
     subs: Subs,
     beside: Beside<R>,
-    keeper: DetailKeeper<F, HostRuntime>,
+    keeper: QueuedKeeper<DetailKeeper<F, HostRuntime>, R>,
 ) -> Result<ServeEnd<QueuedKeeper<DetailKeeper<F, HostRuntime>, R>>, Failure>
-    requires live { IfSome beside.live (λ tables. tables ≡ subs) }
+    requires live { IfSome beside.live (λ live. live.opening ≡ subs) }
     requires named { keeper.subs ≡ subs }
     requires new { keeper.given ≡ [] }
-    ensures { IfOk result (λ end. Serves (AreKeptBeside AreKept GoesOnAs) KeepsBeside subs (first_queued subs keeper KeepFault.Details) end.keeper end.outcome) }
+    ensures { IfOk result (λ end. Serves (AreKeptBeside AreKept GoesOnAs) KeepsBeside subs keeper end.keeper end.outcome) }
 {
-    let keeper = start_details(*rt, rt.alloc(), &subs, keeper)?;
     attend(rt, order, clock, subs, beside, keeper)
 }
 

@@ -13,7 +13,7 @@ use xp_cdr::{DetailFile, ExchangeRun, Opened, RecordFile};
 use xp_clock::WallClock;
 use xp_keeping::OperatorLog;
 use xp_live::{LeftBehind, LiveFile, LiveKeeper, LiveThread, begin_live};
-use xp_readiness::{Failure, Tracing};
+use xp_readiness::Failure;
 use xp_subs::Subs;
 
 /// What stands behind the path of the file of call detail records in that of the file of live calls.
@@ -102,23 +102,30 @@ pub(crate) fn begin_live_of<R: AllocGlobal + Files<File = File> + Log>(
 }
 
 impl LiveOfRun {
-    /// What goes on beside the lines: this trace, and what keeps the live calls of this run in the file, if there is one.
-    pub(crate) fn beside<R: AllocGlobal + Copy + Drop + Send + Threads + Wait + 'static>(
+    /// What goes on beside the lines: this, and what keeps the live calls of this run in the file, if there is one.
+    pub(crate) fn kept_in<R: AllocGlobal + Copy + Drop + Send + Threads + Wait + 'static>(
         self,
         rt: &R,
         clock: WallClock,
         subs: Subs,
         run: &ExchangeRun,
-        tracing: Tracing<R>,
+        beside: Beside<R>,
     ) -> Result<Beside<R>, Failure>
-        ensures { IfOk result (λ beside. IfSome beside.live (λ tables. tables ≡ subs)) }
+        ensures { IfOk result (λ beside. IfSome beside.live (λ live. live.opening ≡ subs)) }
     {
         let partial_records = self.left.calls as u64;
         let live = self.keep(rt, clock, subs, run)?;
+        let Beside {
+            tracing,
+            live: _,
+            partial_records: _,
+            file,
+        } = beside;
         Ok(Beside {
             tracing,
             live,
             partial_records,
+            file,
         })
     }
 
@@ -130,7 +137,7 @@ impl LiveOfRun {
         subs: Subs,
         run: &ExchangeRun,
     ) -> Result<Option<LiveKeeper<R>>, Failure>
-        ensures { IfOk result (λ keeper. IfSome keeper (λ tables. tables ≡ subs)) }
+        ensures { IfOk result (λ keeper. IfSome keeper (λ live. live.opening ≡ subs)) }
     {
         let LiveOfRun { file, log, left: _ } = self;
         let Some(file) = file else {

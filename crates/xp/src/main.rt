@@ -22,13 +22,14 @@ use std::thread::Threads;
 use std::time::Clock;
 use std::{env, fs, io};
 use xp_arguments::{
-    Arguments, CheckOrder, QuestionOrder, ReplayForm, ServeOrder, Subcommand, refused,
+    Arguments, CheckOrder, QuestionOrder, ReplayOrder, ServeOrder, Subcommand, refused,
 };
 use xp_commands::{
-    CommandFailure, ask_console, check_file, explain_call, file_text, named_file, print_text,
-    replay_script, subscriptions_of,
+    CommandFailure, ask_console, changes_after, check_file, explain_call, file_text, named_file,
+    print_changes, print_text, replay_script, subscriptions_of,
 };
 use xp_readiness::{Failure, check_readiness, explained, refusal_warning};
+use xp_renewal::SubscriptionFile;
 use xp_subs::Subs;
 use xp_tasks::TaskFailure;
 
@@ -89,8 +90,8 @@ fn perform<
 >(rt: &R, host: HostRuntime, arguments: Arguments<'_>) -> Result<(), Failure> {
     let operand = arguments.operand;
     match arguments.subcommand {
-        Subcommand::Check(order) => check(rt, order, operand),
-        Subcommand::Replay(form) => replay(rt, form, operand),
+        Subcommand::Check(order) => check(rt, &order, operand),
+        Subcommand::Replay(order) => replay(rt, &order, operand),
         Subcommand::Explain(question) => explain(rt, &question, operand),
         Subcommand::Serve(order) => {
             let file = named_file(rt.alloc(), operand, "standard input stops the exchange")?;
@@ -103,24 +104,29 @@ fn perform<
 /// Checks a subscription file.
 fn check<R: AllocGlobal + Files<File = File> + Input + Net + Print>(
     rt: &R,
-    order: CheckOrder,
+    order: &CheckOrder<'_>,
     file: &str,
 ) -> Result<(), Failure> {
     let subs = subscriptions_in(rt, file)?;
+    let changes = changes_after(rt, order.after, &subs)?;
     check_readiness(rt, &subs, order.depth)?;
     let warning = refusal_warning(rt, &subs, order.form)?;
     check_file(rt, order.form, subs)?;
-    Ok(print_text(rt, &warning)?)
+    print_text(rt, &warning)?;
+    match changes {
+        Some(told) => Ok(print_changes(rt, &told)?),
+        None => Ok(()),
+    }
 }
 
 /// Replays the script on standard input.
 fn replay<R: AllocGlobal + Files<File = File> + Input + Print>(
     rt: &R,
-    form: ReplayForm<'_>,
+    order: &ReplayOrder<'_>,
     file: &str,
 ) -> Result<(), Failure> {
     let file = named_file(rt.alloc(), file, "standard input is the script")?;
-    Ok(replay_script(rt, form, file)?)
+    Ok(replay_script(rt, order, file)?)
 }
 
 /// Explains how a call request is decided.
@@ -162,16 +168,17 @@ fn serve_file<
         + Wait
         + 'static,
 >(rt: &R, host: HostRuntime, order: &ServeOrder<'_>, file: &str) -> Result<(), Failure> {
+    let path = file.to_string(rt.alloc())?;
     let text = fs::read_to_string(rt, file);
     let own = subscriptions_of(rt, file, &text)?;
     let names = subscriptions_of(rt, file, &text)?;
-    let spare = subscriptions_of(rt, file, &text)?;
     let live = subscriptions_of(rt, file, &text)?;
+    let kept = subscriptions_of(rt, file, &text)?;
     let subs = CopiedSubs {
         own,
         names,
-        spare,
         live,
+        file: SubscriptionFile::new(host, path, kept),
     };
     match serve_lines(rt, host, order, subs) {
         Ok(()) => Ok(()),

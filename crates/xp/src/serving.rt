@@ -1,6 +1,6 @@
 //! Serving the lines over TCP.
 
-ghost use Rattle.std.specs.Prelude.{◌≡◌, [], IfOk, IfSome};
+ghost use Rattle.std.specs.Prelude.{◌≡◌, [], IfOk, IfSome, None};
 ghost use Rattle.xp_serve.specs.Serving.{Serves};
 
 use crate::into_file::{serve_into_directory, serve_into_file};
@@ -29,6 +29,7 @@ use xp_limits::Limits;
 use xp_live::LiveKeeper;
 use xp_observer::{BoardName, StatusBoard};
 use xp_readiness::{Failure, Tracing, opening};
+use xp_renewal::SubscriptionFile;
 use xp_serve::{
     Attending, ConsoleFeed, LiveWatch, NoConsole, OperatorWatch, ServeEnd, StopInput, TracedWatch,
     Watch, serve_attended,
@@ -38,18 +39,21 @@ use xp_tasks::TaskFailure;
 use xp_tcp::Notices;
 use xp_tracing::TraceThread;
 
-/// The subscriptions of the lines that are served, four times.
+/// The subscriptions of the lines that are served, once for each who needs them.
 #[derive(Drop)]
 pub(crate) struct CopiedSubs {
     /// Those of the exchange.
     pub(crate) own: Subs,
     /// Those that the records are told by.
     pub(crate) names: Subs,
-    /// Those that the records in doubt are told by.
-    pub(crate) spare: Subs,
     /// Those that the live calls are told by.
     pub(crate) live: Subs,
+    /// Their file, which is read again where other subscriptions are asked for.
+    pub(crate) file: ServedFile,
 }
+
+/// The subscription file of the lines that are served.
+pub(crate) type ServedFile = SubscriptionFile<HostRuntime>;
 
 /// What prints charging records on a thread of its own.
 type PrintingKeeper<R> = QueuedKeeper<RecordPrinter<BufWriter<StandardOutput<HostRuntime>>>, R>;
@@ -62,6 +66,22 @@ pub(crate) struct Beside<R: Wait> {
     pub(crate) live: Option<LiveKeeper<R>>,
     /// How many calls of the run before got a partial record.
     pub(crate) partial_records: u64,
+    /// Where other subscriptions come from.
+    pub(crate) file: ServedFile,
+}
+
+impl<R: Wait> Beside<R> {
+    /// This trace, and this file, beside lines whose live calls are not kept.
+    pub(crate) fn new(tracing: Tracing<R>, file: ServedFile) -> Beside<R>
+        ensures { result.live ≡ None }
+    {
+        Beside {
+            tracing,
+            live: None,
+            partial_records: 0,
+            file,
+        }
+    }
 }
 
 /// Serves the lines as they were ordered. Their charging records are kept in the file of call detail records, or in those of a
@@ -82,7 +102,6 @@ pub(crate) fn serve_lines<
         + 'static,
 >(rt: &R, host: HostRuntime, order: &ServeOrder<'_>, subs: CopiedSubs) -> Result<(), Failure>
     requires names { subs.names ≡ subs.own }
-    requires spare { subs.spare ≡ subs.own }
     requires live { subs.live ≡ subs.own }
 {
     let clock = WallClock::start();
@@ -91,15 +110,7 @@ pub(crate) fn serve_lines<
         Some(DetailsOrder::Directory(path)) => {
             serve_into_directory(rt, host, order, path, clock, subs)
         }
-        None => {
-            let CopiedSubs {
-                own,
-                names,
-                spare: _,
-                live: _,
-            } = subs;
-            serve_and_print(rt, host, order, clock, own, names)
-        }
+        None => { serve_and_print(rt, host, order, clock, subs) }
     }
 }
 
@@ -123,19 +134,20 @@ fn serve_and_print<
     host: HostRuntime,
     order: &ServeOrder<'_>,
     clock: WallClock,
-    subs: Subs,
-    names: Subs,
+    subs: CopiedSubs,
 ) -> Result<(), Failure>
-    requires { names ≡ subs }
+    requires { subs.names ≡ subs.own }
 {
-    let tracing = Tracing::begin(rt, order, clock, &subs)?;
-    let beside = Beside {
-        tracing,
-        live: None,
-        partial_records: 0,
-    };
-    let keeper = begin_printing(rt, host, &subs, names)?;
-    let end = attend(rt, order, clock, subs, beside, keeper)?;
+    let CopiedSubs {
+        own,
+        names,
+        live: _,
+        file,
+    } = subs;
+    let tracing = Tracing::begin(rt, order, clock, &own)?;
+    let beside = Beside::new(tracing, file);
+    let keeper = begin_printing(rt, host, names)?;
+    let end = attend(rt, order, clock, own, beside, keeper)?;
     tell_unprinted(rt, clock, &end.keeper);
     outcome_of(end)
 }
@@ -144,16 +156,14 @@ fn serve_and_print<
 fn begin_printing<R: AllocGlobal + Copy + Drop + Send + Threads + Wait + 'static>(
     rt: &R,
     host: HostRuntime,
-    subs: &Subs,
     names: Subs,
 ) -> Result<PrintingKeeper<R>, Failure>
-    requires { names ≡ subs.now }
-    ensures { IfOk result (λ keeper. (keeper.subs ≡ subs.now) × (keeper.given ≡ [])) }
+    ensures { IfOk result (λ keeper. (keeper.subs ≡ names) × (keeper.opening ≡ names) × (keeper.given ≡ [])) }
 {
     let output = StandardOutput::new(host);
     let output = BufWriter::new(rt.alloc(), output).map_err(|_| TaskFailure::Memory)?;
-    let keeper = RecordPrinter::new(rt.alloc(), names, output);
-    Ok(start_printer(*rt, rt.alloc(), subs, keeper)?)
+    let keeper = RecordPrinter::new(rt.alloc(), output);
+    Ok(start_printer(*rt, rt.alloc(), names, keeper)?)
 }
 
 /// What serving came to.
@@ -186,7 +196,7 @@ pub(crate) fn attend<
     beside: Beside<R>,
     keeper: K,
 ) -> Result<ServeEnd<K>, Failure>
-    requires live { IfSome beside.live (λ tables. tables ≡ subs) }
+    requires live { IfSome beside.live (λ live. live.opening ≡ subs) }
     requires names { K.named_by keeper ≡ subs }
     requires new { K.received keeper ≡ [] }
     ensures { IfOk result (λ end. Serves K.kept K.keeps subs keeper end.keeper end.outcome) }
@@ -196,6 +206,7 @@ pub(crate) fn attend<
         tracing,
         live,
         partial_records,
+        file,
     } = beside;
     let notices = tracing.notices(alloc, clock.start)?;
     let notices = Arc::new(alloc, notices).map_err(|_| TaskFailure::Memory)?;
@@ -213,6 +224,7 @@ pub(crate) fn attend<
         trace: tracing.thread,
         live,
         partial_records,
+        file,
     };
     attend_named::<Brand, R, K>(rt, console, watching, subs, keeper)
 }
@@ -230,6 +242,8 @@ struct Watching<R: Log + Wait> {
     trace: Option<TraceThread<R>>,
     live: Option<LiveKeeper<R>>,
     partial_records: u64,
+    /// Where other subscriptions come from.
+    file: ServedFile,
 }
 
 impl<R: Drop + Log + Wait> Drop for Watching<R> {
@@ -244,6 +258,7 @@ impl<R: Drop + Log + Wait> Drop for Watching<R> {
             trace: _,
             live: _,
             partial_records: _,
+            file: _,
         } = self;
     }
 }
@@ -270,14 +285,13 @@ impl<R: Copy + Drop + Log + Send + Threads + Wait + 'static> Watching<R> {
         )
     }
 
-    /// What watches over these lines, begins their trace, and keeps their live calls.
+    /// What watches over the lines, begins their trace, and keeps their live calls.
     fn watch<F: ConsoleFeed>(
         self,
         alloc: Global,
-        subs: &Subs,
         console: F,
-    ) -> Result<LiveWatch<TracedWatch<OperatorWatch<R, F>, R>, R>, Failure>
-        requires { IfSome self.live (λ tables. tables ≡ F.tables) }
+    ) -> Result<LiveWatch<TracedWatch<OperatorWatch<R, F, ServedFile>, R>, R>, Failure>
+        requires { IfSome self.live (λ live. live.opening ≡ F.tables) }
     {
         let Watching {
             opening,
@@ -289,9 +303,11 @@ impl<R: Copy + Drop + Log + Send + Threads + Wait + 'static> Watching<R> {
             trace,
             live,
             partial_records: _,
+            file,
         } = self;
-        let watch = OperatorWatch::new(alloc, subs, notices, stop, console, clock, log)?;
-        let watch = TracedWatch::new(watch.with_opening(opening), trace);
+        let watch = OperatorWatch::new(alloc, file, notices, console, clock, log)?;
+        let watch = watch.with_stop(stop).with_opening(opening);
+        let watch = TracedWatch::new(watch, trace);
         Ok(LiveWatch::new(watch, live))
     }
 }
@@ -321,7 +337,7 @@ fn attend_named<
     keeper: K,
 ) -> Result<ServeEnd<K>, Failure>
     requires shown { B.tables ≡ subs }
-    requires live { IfSome watching.live (λ tables. tables ≡ B.tables) }
+    requires live { IfSome watching.live (λ live. live.opening ≡ B.tables) }
     requires names { K.named_by keeper ≡ subs }
     requires new { K.received keeper ≡ [] }
     ensures { IfOk result (λ end. Serves K.kept K.keeps subs keeper end.keeper end.outcome) }
@@ -332,8 +348,8 @@ fn attend_named<
     match console {
         Some(console) => attend_with_console::<B, R, K>(rt, console, watching, subs, keeper),
         None => {
-            let watch = watching.watch(alloc, &subs, NoConsole::<B>::default())?;
-            let attending = Attending { keeper, watch };
+            let watch = watching.watch(alloc, NoConsole::<B>::default())?;
+            let attending = Attending::new(keeper, watch);
             Ok(serve_attended(rt, alloc, subs, limits, notices, attending))
         }
     }
@@ -362,7 +378,7 @@ fn attend_with_console<
     keeper: K,
 ) -> Result<ServeEnd<K>, Failure>
     requires shown { B.tables ≡ subs }
-    requires live { IfSome watching.live (λ tables. tables ≡ B.tables) }
+    requires live { IfSome watching.live (λ live. live.opening ≡ B.tables) }
     requires names { K.named_by keeper ≡ subs }
     requires new { K.received keeper ≡ [] }
     ensures { IfOk result (λ end. Serves K.kept K.keeps subs keeper end.keeper end.outcome) }
@@ -372,8 +388,8 @@ fn attend_with_console<
     let notices = Arc::try_clone(&watching.notices)?;
     let board = Arc::new(alloc, StatusBoard::<B>::new()).map_err(|_| TaskFailure::Memory)?;
     let feed = watching.feed(alloc, &subs, &board)?;
-    let watch = watching.watch(alloc, &subs, feed)?;
-    let attending = Attending { keeper, watch };
+    let watch = watching.watch(alloc, feed)?;
+    let attending = Attending::new(keeper, watch);
     serve_beside(rt, console, &board, subs, limits, notices, attending)
 }
 

@@ -1,13 +1,14 @@
 //! What feeds the console of the exchange that is served.
 
 ghost use Rattle.std.specs.Prelude.{◌≡◌};
+ghost use Rattle.xp_sink.specs.InForce.{IsInForce};
 
 use std::alloc::{AllocError, Global};
 use std::sync::Arc;
 use xp_causes::Refusal;
 use xp_charge::Record;
 use xp_clock::WallClock;
-use xp_observer::{BoardName, Observer, RunBegin, StatusBoard, Traffic};
+use xp_observer::{BoardName, Naming, Observer, ReloadOutcome, RunBegin, StatusBoard, Traffic};
 use xp_serve::ConsoleFeed;
 use xp_subs::Subs;
 use xp_tcp::{Notice, Notices};
@@ -60,6 +61,8 @@ impl<B: BoardName> ConsoleFeed for StatusFeed<B> {
 
     ghost may_stop = { B.may_stop };
 
+    ghost may_reload = { B.may_reload };
+
     fn note(&mut self, notice: &Notice) {
         match notice {
             Notice::Up { line, peer } => self.observer.came_up(*line, *peer),
@@ -99,5 +102,38 @@ impl<B: BoardName> ConsoleFeed for StatusFeed<B> {
 
     fn is_asked_to_stop(&self) -> bool {
         self.board.is_asked_to_stop()
+    }
+
+    fn takes_reload(&mut self) -> bool {
+        self.board.take_reload_request()
+    }
+
+    fn reloaded(&mut self, told: Result<String, String>, in_force: &Subs) {
+        match told {
+            Ok(text) => {
+                self.rename(in_force);
+                self.board.answer_reload(ReloadOutcome::Done(text));
+            }
+            Err(text) => {
+                self.observer.reload_refused();
+                self.board.answer_reload(ReloadOutcome::Refused(text));
+            }
+        }
+    }
+
+    fn end(&mut self) {
+        self.board.close();
+    }
+}
+
+impl<B: BoardName> StatusFeed<B> {
+    /// Shows lines and stations by these subscriptions from now on. Where there is no memory for their names, they are shown as before.
+    fn rename(&mut self, in_force: &Subs)
+        requires { IsInForce B.tables in_force.now }
+    {
+        let now = self.clock.now();
+        if let Ok(naming) = Naming::of(self.alloc, in_force) {
+            self.observer.rename(naming, now);
+        }
     }
 }

@@ -1,16 +1,16 @@
 -- What the arguments of a command ask for.
-use Rattle.std.proofs.Common.{◌≡◌, ◌∙◌, [], cond, refl, sym, ap, subst, codes, option_map, Option, Some, None, IfNone, IfSome, List, ℕ, Bool, nat_eq, slice_index_or}
+use Rattle.std.proofs.Common.{◌≡◌, ◌||◌, ◌∙◌, [], cond, refl, sym, ap, subst, codes, option_map, Option, Some, None, IfNone, IfSome, List, ℕ, Bool, nat_eq, slice_index_or}
 use Rattle.clap.specs.Words.{Row, Text, first_of}
 use Rattle.xp_arguments.specs.Commands.{AreDetails, AsksFor, HasDetails, directory_of, either, file_of, HasLimits, HasLive, HasName, HasReplayForm, HasTrace, IsLive, IsNamed, IsOneForm, IsOrder, has_flag, IsQuestion, IsSubcommand, IsTrace, operand_of, verb_of, word_of}
 use Rattle.xp_arguments.specs.declared.details_order.DetailsOrder.{DetailsOrder}
 use Rattle.xp_arguments.specs.declared.details_order.DetailsOrder.TheVariants as details_orders
 use Rattle.xp_arguments.specs.declared.subcommand.QuestionOrder.{QuestionOrder}
-use Rattle.xp_arguments.specs.declared.subcommand.ReplayForm.{ReplayForm}
-use Rattle.xp_arguments.specs.declared.subcommand.ServeOrder.{ServeOrder}
+use Rattle.xp_arguments.specs.declared.replay_order.ReplayForm.{ReplayForm}
+use Rattle.xp_arguments.specs.declared.serve_order.ServeOrder.{ServeOrder}
 use Rattle.xp_arguments.specs.declared.subcommand.Subcommand.{Subcommand}
-use Rattle.xp_arguments.specs.declared.subcommand.TraceOrder.{TraceOrder}
+use Rattle.xp_arguments.specs.declared.serve_order.TraceOrder.{TraceOrder}
 use Rattle.xp_arguments.specs.declared.subcommand.Verb.{Verb}
-use Rattle.xp_arguments.specs.declared.subcommand.Verb.TheVariants.{Check, Replay, Explain, Serve, Status, Stop}
+use Rattle.xp_arguments.specs.declared.subcommand.Verb.TheVariants.{Check, Replay, Explain, Serve, Status, Stop, Reload}
 use Rattle.xp_limits.specs.Limits.{AreLimits}
 use Rattle.xp_limits.specs.declared.limits.Limits.{Limits}
 
@@ -146,7 +146,8 @@ module _ (rows : List Row) (words ladder : Bool) (capture : Option Text) (words_
 
 -- the name of the argument that has to be given first behind this word
 abbrev operand_behind : Text → Text
-operand_behind word = cond (nat_eq (slice_index_or word 1 0) 116) (codes "ADDRESS") (codes "FILE")
+operand_behind word =
+    cond (nat_eq (slice_index_or word 1 0) 116 || nat_eq (slice_index_or word 2 0) 108) (codes "ADDRESS") (codes "FILE")
 
 operand_is : (verb : Verb) → operand_of verb ≡ operand_behind (word_of verb)
 operand_is Check = refl
@@ -155,6 +156,7 @@ operand_is Explain = refl
 operand_is Serve = refl
 operand_is Status = refl
 operand_is Stop = refl
+operand_is Reload = refl
 
 -- what a command of this word has to be given
 one_operand : (word : Text) (one other : Verb) → word ≡ word_of one → word ≡ word_of other → operand_of one ≡ operand_of other

@@ -1,1 +1,3 @@
 mod Errands
+mod NamedLemmas
+mod Shapes

@@ -1,8 +1,8 @@
 -- The command lines that the program takes, as `clap` reads them.
-use Rattle.std.specs.Prelude.{◌≡◌, ℕ, List, [], ◌∷◌, Bool, Option, Some, None, true, false, codes, option_map}
+use Rattle.std.specs.Prelude.{◌≡◌, ℕ, List, [], ◌∷◌, Bool, Option, Some, None, true, false, codes, option_map, unwrap_or}
 use Rattle.clap.specs.Kinds.{or_else}
-use Rattle.clap.specs.Words.{App, Kinds, Row, Rule, Text, fault_of, first_of, new_app, new_rule, subcommand_of, with_rule, with_subcommand}
-use Rattle.clap.specs.declared.builder.action.ArgAction.TheVariants.{SetTrue}
+use Rattle.clap.specs.Words.{App, Kinds, Row, Rule, Text, all_of, fault_of, first_of, new_app, new_rule, subcommand_of, with_rule, with_subcommand}
+use Rattle.clap.specs.declared.builder.action.ArgAction.TheVariants.{Append, SetTrue}
 use Rattle.clap.specs.declared.error.kind.ErrorKind.TheVariants.{InvalidValue}
 use Rattle.xp_arguments.specs.declared.subcommand.CheckDepth.{CheckDepth}
 use Rattle.xp_arguments.specs.declared.subcommand.CheckDepth.TheVariants as check_depths
@@ -13,14 +13,18 @@ use Rattle.xp_arguments.specs.declared.subcommand.ConsoleRequest.TheVariants as 
 use Rattle.xp_arguments.specs.declared.details_order.DetailsOrder.{DetailsOrder}
 use Rattle.xp_arguments.specs.declared.details_order.DetailsOrder.TheVariants as details_orders
 use Rattle.xp_arguments.specs.declared.subcommand.QuestionOrder.{QuestionOrder}
-use Rattle.xp_arguments.specs.declared.subcommand.ReplayForm.{ReplayForm}
-use Rattle.xp_arguments.specs.declared.subcommand.ReplayForm.TheVariants as replay_forms
-use Rattle.xp_arguments.specs.declared.subcommand.ServeOrder.{ServeOrder}
+use Rattle.xp_arguments.specs.declared.replay_order.ReplayForm.{ReplayForm}
+use Rattle.xp_arguments.specs.declared.replay_order.ReplayForm.TheVariants as replay_forms
+use Rattle.xp_arguments.specs.declared.replay_order.NamedPath.{NamedPath}
+use Rattle.xp_arguments.specs.declared.replay_order.ReplayOrder.{ReplayOrder}
+use Rattle.xp_arguments.specs.declared.subcommand.CheckOrder.{CheckOrder}
+use Rattle.xp_arguments.specs.declared.serve_order.ServeOrder.{ServeOrder}
 use Rattle.xp_arguments.specs.declared.subcommand.Subcommand.{Subcommand}
 use Rattle.xp_arguments.specs.declared.subcommand.Subcommand.TheVariants as subcommands
-use Rattle.xp_arguments.specs.declared.subcommand.TraceOrder.{TraceOrder}
+use Rattle.xp_arguments.specs.declared.serve_order.TraceOrder.{TraceOrder}
 use Rattle.xp_arguments.specs.declared.subcommand.Verb.{Verb}
-use Rattle.xp_arguments.specs.declared.subcommand.Verb.TheVariants.{Check, Replay, Explain, Serve, Status, Stop}
+use Rattle.xp_arguments.specs.declared.subcommand.Verb.TheVariants.{Check, Replay, Explain, Serve, Status, Stop, Reload}
+use Rattle.xp_arguments.specs.NamedPaths.{AreTables}
 use Rattle.xp_cdr.specs.Names.{is_exchange_name}
 use Rattle.xp_limits.specs.Limits.{AreLimits}
 use Rattle.xp_limits.specs.declared.limits.Limits.{Limits}
@@ -34,6 +38,10 @@ positional name = record (new_rule name) { required = true }
 abbrev pub valued : Text → Rule
 valued name = record (new_rule name) { long = Some name; value_names = 1 }
 
+-- an argument with a value that may be given again, as `--tables NAME=PATH`
+abbrev pub repeated : Text → Rule
+repeated name = record (new_rule name) { long = Some name; value_names = 1; action = Some Append }
+
 -- an argument that is there or not, as `--until-eof`
 abbrev pub flag : Text → Rule
 flag name = record (new_rule name) { long = Some name; action = Some SetTrue }
@@ -46,6 +54,7 @@ word_of Explain = codes "explain"
 word_of Serve = codes "serve"
 word_of Status = codes "status"
 word_of Stop = codes "stop"
+word_of Reload = codes "reload"
 
 -- the name of the argument that a verb has to be given first: a file, or the address of a console
 abbrev pub operand_of : Verb → Text
@@ -55,6 +64,7 @@ operand_of Explain = codes "FILE"
 operand_of Serve = codes "FILE"
 operand_of Status = codes "ADDRESS"
 operand_of Stop = codes "ADDRESS"
+operand_of Reload = codes "ADDRESS"
 
 -- the command of a verb, with that argument alone
 abbrev pub command_of : Verb → App
@@ -62,11 +72,15 @@ command_of verb = with_rule (new_app (word_of verb)) (positional (operand_of ver
 
 -- the command that checks a file
 abbrev pub check : App
-check = with_rule (with_rule (with_rule (command_of Check) (flag (codes "words"))) (flag (codes "serve"))) (flag (codes "ports"))
+check =
+    with_rule (with_rule (with_rule (with_rule (command_of Check) (flag (codes "words"))) (flag (codes "serve"))) (flag (codes "ports")))
+    (valued (codes "after"))
 
 -- the command that replays a script
 abbrev pub replay : App
-replay = with_rule (with_rule (with_rule (command_of Replay) (flag (codes "words"))) (flag (codes "ladder"))) (valued (codes "pcap"))
+replay =
+    with_rule (with_rule (with_rule (with_rule (command_of Replay) (flag (codes "words"))) (flag (codes "ladder"))) (valued (codes "pcap")))
+    (repeated (codes "tables"))
 
 -- the command that explains a decision, with the call request
 abbrev pub call : App
@@ -114,8 +128,12 @@ over_files = with_subcommand replaying explain.top
 abbrev pub serving : App
 serving = with_subcommand over_files serve.top
 
+-- with those that ask a console to show the exchange and to stop it
+abbrev pub asking : App
+asking = with_subcommand (with_subcommand serving (command_of Status).top) (command_of Stop).top
+
 abbrev pub program : App
-program = with_subcommand (with_subcommand serving (command_of Status).top) (command_of Stop).top
+program = with_subcommand asking (command_of Reload).top
 
 -- an argument that is there or not is there
 abbrev pub says_true : Option Text → Bool
@@ -141,6 +159,12 @@ IsDepth serve ports check_depths.Ports = ports ≡ true
 abbrev pub HasDepth : List Row → CheckDepth → Type 0
 HasDepth rows depth = IsDepth (has_flag (codes "serve") rows) (has_flag (codes "ports") rows) depth
 
+-- the arguments ask a file to be checked so, after that one
+pub record IsCheck (rows : List Row) (order : CheckOrder) : Type 0 where
+  pub form : HasCheckForm rows order.form
+  pub depth : HasDepth rows order.depth
+  pub after : option_map (λ name. name.now) order.after ≡ first_of (codes "after") rows
+
 -- this form is asked for, and no other: words, a ladder, or a capture of this name
 abbrev pub IsOneForm : Bool → Bool → Option Text → ReplayForm → Type 0
 IsOneForm words ladder capture replay_forms.Digits = (words ≡ false) × (ladder ≡ false) × (capture ≡ None)
@@ -151,6 +175,19 @@ IsOneForm words ladder capture (replay_forms.Capture path) = (words ≡ false) �
 -- the arguments ask for a replay in this form
 abbrev pub HasReplayForm : List Row → ReplayForm → Type 0
 HasReplayForm rows form = IsOneForm (has_flag (codes "words") rows) (has_flag (codes "ladder") rows) (first_of (codes "pcap") rows) form
+
+-- the texts that name files of subscriptions, in the order of the arguments
+abbrev pub table_texts : List Row → List Text
+table_texts rows = unwrap_or (all_of (codes "tables") rows) []
+
+-- the arguments name these files of subscriptions, each by a name of its own
+abbrev pub HasTables : List Row → List NamedPath → Type 0
+HasTables rows tables = AreTables (table_texts rows) tables
+
+-- the arguments ask a script to be replayed so
+pub record IsReplay (rows : List Row) (order : ReplayOrder) : Type 0 where
+  pub form : HasReplayForm rows order.form
+  pub tables : HasTables rows order.tables.items
 
 -- the arguments ask how this call request is decided
 pub record IsQuestion (rows : List Row) (question : QuestionOrder) : Type 0 where
@@ -240,19 +277,20 @@ pub record IsOrder (rows : List Row) (order : ServeOrder) : Type 0 where
 abbrev pub verb_to : ConsoleRequest → Verb
 verb_to requests.Status = Status
 verb_to requests.Stop = Stop
+verb_to requests.Reload = Reload
 
 -- what a subcommand does
 abbrev pub verb_of : Subcommand → Verb
 verb_of (subcommands.Check order) = Check
-verb_of (subcommands.Replay form) = Replay
+verb_of (subcommands.Replay order) = Replay
 verb_of (subcommands.Explain question) = Explain
 verb_of (subcommands.Serve order) = Serve
 verb_of (subcommands.Ask request) = verb_to request
 
 -- the arguments that were found are those of this subcommand
 abbrev pub Suits : List Row → Subcommand → Type 0
-Suits rows (subcommands.Check order) = HasCheckForm rows order.form × HasDepth rows order.depth
-Suits rows (subcommands.Replay form) = HasReplayForm rows form
+Suits rows (subcommands.Check order) = IsCheck rows order
+Suits rows (subcommands.Replay order) = IsReplay rows order
 Suits rows (subcommands.Explain question) = IsQuestion rows question
 Suits rows (subcommands.Serve order) = IsOrder rows order
 Suits rows (subcommands.Ask request) = Unit {0}

@@ -1,3 +1,4 @@
 pub mod Addresses
 pub mod Commands
+pub mod NamedPaths
 pub mod Sources

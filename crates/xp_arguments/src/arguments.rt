@@ -4,21 +4,22 @@ ghost use Rattle.std.specs.Prelude.{◌≡◌, ℕ, List, IfSome, IfNone, IfOk, 
 ghost use Rattle.clap.specs.Words.{HasKind, app_of, kind_of, rule_of, subcommand_rows_of};
 ghost use Rattle.clap.specs.declared.error.kind.ErrorKind.TheVariants.{InvalidValue, OutOfMemory};
 ghost use Rattle.clap.specs.declared.builder.command.Command.TheViews.{out-Command as fields_of};
-ghost use Rattle.xp_arguments.specs.Commands.{AreRight, Ask, AsksFor, call as call_app, check as check_app, command_of, explain as explain_app, flag as flag_rule, keeping, kinds_of, over_files as over_files_app, positional as positional_rule, program, recording, replay as replay_app, replaying as replaying_app, serve, serving, tracing, valued as valued_rule, verb_of};
+ghost use Rattle.xp_arguments.specs.Commands.{AreRight, Ask, AsksFor, asking as asking_app, call as call_app, check as check_app, command_of, explain as explain_app, flag as flag_rule, keeping, kinds_of, over_files as over_files_app, positional as positional_rule, program, recording, repeated as repeated_rule, replay as replay_app, replaying as replaying_app, serve, serving, tracing, valued as valued_rule, verb_of};
 
 use crate::misfits::misfit;
-use crate::subcommand::{
-    BUSY, CALLER, CDR, CDR_DIR, CONSOLE, DIALLED, FACILITIES, LADDER, LIVE, NAME, NO_LIVE, PCAP,
-    PORTS, QUIET, RECORDS, SERVE, STATUS, Subcommand, TRACE, TRACE_LINES, TURNS, UNTIL_EOF, UP,
-    USER, Verb, WORDS,
+use crate::names::{
+    AFTER, BUSY, CALLER, CDR, CDR_DIR, CONSOLE, DIALLED, FACILITIES, LADDER, LIVE, NAME, NO_LIVE,
+    PCAP, PORTS, QUIET, RECORDS, SERVE, STATUS, TABLES, TRACE, TRACE_LINES, TURNS, UNTIL_EOF, UP,
+    USER, WORDS,
 };
+use crate::subcommand::{Subcommand, Verb};
 use crate::texts;
 use clap::error::ErrorKind;
 use clap::{Arg, ArgAction, ArgMatches, Command, Error};
 use std::alloc::{AllocError, Global};
 
 /// The arguments of the program: a subcommand, and what it has to be given.
-#[derive(Clone, Copy, PartialEq, Eq)]
+#[derive(Drop)]
 pub struct Arguments<'a> {
     pub subcommand: Subcommand<'a>,
     /// The name of the subscription file, or the address of the console that is asked.
@@ -34,24 +35,34 @@ impl<'a> Arguments<'a> {
         ensures kind { IfErr result (HasKind (kinds_of (map string_bytes words.now))) }
     {
         let matches = command(alloc)?.try_get_matches_from(words)?;
-        match Arguments::named(&matches) {
+        match Arguments::named(alloc, &matches)? {
             Some(arguments) => Ok(arguments),
             None => Err(unfit(alloc, &matches)?),
         }
     }
 
     /// The subcommand in the words, with its file or address.
-    fn named(matches: &ArgMatches<'a>) -> Option<Arguments<'a>>
-        ensures found { IfSome result (λ arguments. AsksFor (subcommand_rows_of matches.now) arguments.subcommand arguments.operand.now) }
-        ensures none { IfNone result ((subcommand : Subcommand) (name : List ℕ) → AsksFor (subcommand_rows_of matches.now) subcommand name → ⊥) }
+    ///
+    /// # Errors
+    ///
+    /// An allocation failed.
+    fn named(alloc: Global, matches: &ArgMatches<'a>) -> Result<Option<Arguments<'a>>, AllocError>
+        ensures found { IfOk result (λ found. IfSome found (λ arguments. AsksFor (subcommand_rows_of matches.now) arguments.subcommand arguments.operand.now)) }
+        ensures none { IfOk result (λ found. IfNone found ((subcommand : Subcommand) (name : List ℕ) → AsksFor (subcommand_rows_of matches.now) subcommand name → ⊥)) }
     {
-        let (word, matches) = matches.subcommand()?;
-        let subcommand = Subcommand::named(word, matches)?;
-        let operand = matches.get_str(subcommand.verb().operand())?;
-        Some(Arguments {
-            subcommand,
-            operand,
-        })
+        let Some((word, matches)) = matches.subcommand() else {
+            return Ok(None);
+        };
+        let Some(subcommand) = Subcommand::named(alloc, word, matches)? else {
+            return Ok(None);
+        };
+        match matches.get_str(subcommand.verb().operand()) {
+            Some(operand) => Ok(Some(Arguments {
+                subcommand,
+                operand,
+            })),
+            None => Ok(None),
+        }
     }
 }
 
@@ -81,6 +92,21 @@ pub fn refused(alloc: Global, reason: &str) -> Result<Error, Error>
 fn command<'a>(alloc: Global) -> Result<Command<'a>, AllocError>
     ensures { IfOk result (λ command. app_of command ≡ program) }
 {
+    let reload = over_operand(
+        alloc,
+        Verb::Reload,
+        texts::RELOAD_ABOUT,
+        texts::RELOAD_DETAILS,
+        texts::ADDRESS_HELP,
+    )?;
+    asking(alloc)?.subcommand(reload)?.bin_name("xp")
+}
+
+/// The same without the subcommand that asks a console to read the subscription file again.
+fn asking<'a>(alloc: Global) -> Result<Command<'a>, AllocError>
+    ensures shape { IfOk result (λ command. app_of command ≡ asking_app) }
+    ensures local { IfOk result (λ command. (fields_of command).has_globals ≡ false) }
+{
     let status = over_operand(
         alloc,
         Verb::Status,
@@ -95,10 +121,7 @@ fn command<'a>(alloc: Global) -> Result<Command<'a>, AllocError>
         texts::STOP_DETAILS,
         texts::ADDRESS_HELP,
     )?;
-    with_serving(alloc)?
-        .subcommand(status)?
-        .subcommand(stop)?
-        .bin_name("xp")
+    with_serving(alloc)?.subcommand(status)?.subcommand(stop)
 }
 
 /// The same without the subcommands that ask a console.
@@ -168,7 +191,8 @@ fn check_command<'a>(alloc: Global) -> Result<Command<'a>, AllocError>
     )?
     .arg(flag(alloc, WORDS, texts::CHECK_WORDS_HELP))?
     .arg(flag(alloc, SERVE, texts::CHECK_SERVE_HELP))?
-    .arg(flag(alloc, PORTS, texts::CHECK_PORTS_HELP))
+    .arg(flag(alloc, PORTS, texts::CHECK_PORTS_HELP))?
+    .arg(valued(alloc, AFTER, "OLD", texts::AFTER_HELP))
 }
 
 /// The subcommand that replays a script.
@@ -185,7 +209,8 @@ fn replay_command<'a>(alloc: Global) -> Result<Command<'a>, AllocError>
     )?
     .arg(flag(alloc, WORDS, texts::REPLAY_WORDS_HELP))?
     .arg(flag(alloc, LADDER, texts::LADDER_HELP))?
-    .arg(valued(alloc, PCAP, "PATH", texts::PCAP_HELP))
+    .arg(valued(alloc, PCAP, "PATH", texts::PCAP_HELP))?
+    .arg(repeated(alloc, TABLES, "NAME=PATH", texts::TABLES_HELP))
 }
 
 /// The subcommand that explains how a call request is decided.
@@ -283,6 +308,18 @@ fn valued<'a>(alloc: Global, name: &'a str, value: &'a str, help: &'a str) -> Ar
     Arg::new(alloc, name)
         .long(name)
         .value_name(value)
+        .help(help)
+}
+
+/// An argument with a value that may be given again, as `--tables NAME=PATH`.
+fn repeated<'a>(alloc: Global, name: &'a str, value: &'a str, help: &'a str) -> Arg<'a>
+    ensures rule { rule_of result ≡ repeated_rule name.now }
+    ensures local { result.global ≡ false }
+{
+    Arg::new(alloc, name)
+        .long(name)
+        .value_name(value)
+        .action(ArgAction::Append)
         .help(help)
 }
 

@@ -4,7 +4,7 @@ ghost use Rattle.std.specs.Prelude.{IfNone, IfSome, Option, option_map};
 ghost use Rattle.clap.specs.Words.{found_of, rows_of};
 ghost use Rattle.xp_arguments.specs.Commands.{AreDetails, HasDetails};
 
-use crate::subcommand::{CDR, CDR_DIR};
+use crate::names::{CDR, CDR_DIR};
 use clap::ArgMatches;
 
 /// Where call detail records go.

@@ -6,6 +6,9 @@ mod arguments;
 mod details_order;
 mod laws;
 mod misfits;
+mod names;
+mod replay_order;
+mod serve_order;
 mod source;
 mod subcommand;
 mod texts;
@@ -14,8 +17,9 @@ pub use addresses::{console_address, no_console_address};
 pub use arguments::{Arguments, refused};
 pub use details_order::DetailsOrder;
 pub use laws::errands_can_be_asked_for;
+pub use replay_order::{NamedPath, ReplayForm, ReplayOrder};
+pub use serve_order::{ServeOrder, TraceOrder};
 pub use source::FileSource;
 pub use subcommand::{
-    CheckDepth, CheckForm, CheckOrder, ConsoleRequest, QuestionOrder, ReplayForm, ServeOrder,
-    Subcommand, TraceOrder, Verb,
+    CheckDepth, CheckForm, CheckOrder, ConsoleRequest, QuestionOrder, Subcommand, Verb,
 };

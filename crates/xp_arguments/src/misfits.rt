@@ -1,13 +1,17 @@
 //! What is wrong with arguments that ask for nothing, in words for a person. No contract says what is told.
 
-use crate::subcommand::{
-    CDR, CDR_DIR, LADDER, LIVE, NAME, NO_LIVE, PCAP, RECORDS, TRACE, TRACE_LINES, TURNS, WORDS,
-    is_true,
+use crate::names::{
+    CDR, CDR_DIR, LADDER, LIVE, NAME, NO_LIVE, PCAP, RECORDS, TABLES, TRACE, TRACE_LINES, TURNS,
+    WORDS, is_true,
 };
+use crate::replay_order::{NamedPath, named_path};
 use clap::ArgMatches;
 use std::alloc::{AllocError, Global};
 use xp_cdr::ExchangeName;
 use xp_limits::Limits;
+
+/// What is told where nothing else is found.
+const NO_REASON: &str = "the arguments do not go together";
 
 /// What is wrong with the arguments that were found of a subcommand, where they ask for nothing: a number or a name that is none, or arguments
 /// that do not go together.
@@ -17,12 +21,41 @@ pub(crate) fn misfit(alloc: Global, matches: &ArgMatches<'_>) -> Result<String, 
             "--{name}: a number from 1 to 1000000000000 is wanted, found {text:?}"
         );
     }
-    match faulty_name(matches) {
-        Some(text) => format!(in alloc;
+    if let Some(text) = faulty_name(matches) {
+        return format!(in alloc;
             "--name: 1 to 64 letters, digits, - and . are wanted, found {text:?}"
-        ),
-        None => String::from_str(alloc, unfit_arguments(matches)),
+        );
     }
+    let reason = unfit_arguments(matches);
+    if reason != NO_REASON {
+        return String::from_str(alloc, reason);
+    }
+    match matches.get_strs(TABLES) {
+        Some(texts) => unfit_tables(alloc, texts),
+        None => String::from_str(alloc, reason),
+    }
+}
+
+/// Which of these texts names no file of subscriptions, or which name is that of two.
+fn unfit_tables(alloc: Global, texts: &[&str]) -> Result<String, AllocError> {
+    for (place, text) in texts.iter().enumerate() {
+        let Some(named) = named_path(text) else {
+            return format!(in alloc; "--tables: NAME=PATH is wanted, found {text:?}");
+        };
+        if names_it(&texts[..place], named) {
+            let name = named.name;
+            return format!(in alloc; "--tables: {name:?} is the name of two files");
+        }
+    }
+    String::from_str(alloc, NO_REASON)
+}
+
+/// Whether one of these texts gives a file the same name.
+fn names_it(texts: &[&str], named: NamedPath<'_>) -> bool {
+    texts.iter().any(|text| match named_path(text) {
+        Some(other) => other.name == named.name,
+        None => false,
+    })
 }
 
 /// The name of the exchange, where it is none.
@@ -67,7 +100,7 @@ fn unfit_arguments(matches: &ArgMatches<'_>) -> &'static str {
         (true, true, false) => "--words and --ladder do not go together",
         (true, false, true) => "--words and --pcap do not go together",
         (false, true, true) => "--ladder and --pcap do not go together",
-        _ => "the arguments do not go together",
+        _ => NO_REASON,
     }
 }
 
@@ -78,6 +111,6 @@ fn unfit_live(matches: &ArgMatches<'_>) -> &'static str {
     } else if is_true(matches, NO_LIVE) {
         "--live and --no-live do not go together"
     } else {
-        "the arguments do not go together"
+        NO_REASON
     }
 }

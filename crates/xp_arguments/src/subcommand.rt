@@ -1,91 +1,17 @@
 //! The subcommands of the program.
 
-ghost use Rattle.std.specs.Prelude.{◌≡◌, IfNone, IfSome, Option, Some, codes, option_map};
-ghost use Rattle.clap.specs.Words.{Text, first_of, found_of, rows_of};
-ghost use Rattle.xp_arguments.specs.Commands.{HasCheckForm, HasDepth, HasLimits, HasLive, HasName, HasReplayForm, HasTrace, IsLive, IsNamed, IsOneForm, IsOrder, IsQuestion, IsSubcommand, IsTrace, Suits, either, operand_of, says_true, verb_of, word_of};
+ghost use Rattle.std.specs.Prelude.{◌≡◌, ◌≢◌, IfNone, IfOk, IfSome, codes, option_map};
+ghost use Rattle.clap.specs.Words.{found_of, rows_of};
+ghost use Rattle.xp_arguments.specs.Commands.{HasCheckForm, HasDepth, IsCheck, IsQuestion, IsSubcommand, Suits, operand_of, verb_of, word_of};
 
-use crate::details_order::{DetailsOrder, details_of};
+use crate::names::{
+    ADDRESS, AFTER, BUSY, CALLER, DIALLED, FACILITIES, FILE, PORTS, SERVE, STATUS, UP, USER, WORDS,
+    is_true,
+};
+use crate::replay_order::{ReplayOrder, replay_of};
+use crate::serve_order::{ServeOrder, order_of};
 use clap::ArgMatches;
-use xp_cdr::ExchangeName;
-use xp_limits::Limits;
-
-/// The name of the subscription file.
-pub const FILE: &str = "FILE";
-
-/// The address of a console.
-pub const ADDRESS: &str = "ADDRESS";
-
-/// The name of the calling line.
-pub const CALLER: &str = "CALLER";
-
-/// The address that is called.
-pub const DIALLED: &str = "DIALLED";
-
-/// The argument by which words for people are printed.
-pub const WORDS: &str = "words";
-
-/// The argument by which a check looks at what serving needs.
-pub const SERVE: &str = "serve";
-
-/// The argument by which a check tries the ports too.
-pub const PORTS: &str = "ports";
-
-/// The argument by which a ladder diagram is printed.
-pub const LADDER: &str = "ladder";
-
-/// The argument for the file of a capture.
-pub const PCAP: &str = "pcap";
-
-/// The argument for the facility field of a call request.
-pub const FACILITIES: &str = "facilities";
-
-/// The argument for the user data of a call request.
-pub const USER: &str = "user";
-
-/// The argument for the lines that are in service.
-pub const UP: &str = "up";
-
-/// The argument for the lines that are in a call.
-pub const BUSY: &str = "busy";
-
-/// The argument by which the exit status tells whether a call request is refused.
-pub const STATUS: &str = "status";
-
-/// The argument for the file of call detail records.
-pub const CDR: &str = "cdr";
-
-/// The argument for the directory of call detail records by the day.
-pub const CDR_DIR: &str = "cdr-dir";
-
-/// The argument for the file of live calls.
-pub const LIVE: &str = "live";
-
-/// The argument by which live calls are not kept.
-pub const NO_LIVE: &str = "no-live";
-
-/// The argument for the name of the exchange.
-pub const NAME: &str = "name";
-
-/// The argument for the file of the trace.
-pub const TRACE: &str = "trace";
-
-/// The argument for the lines that are traced.
-pub const TRACE_LINES: &str = "trace-lines";
-
-/// The argument for the address of the console.
-pub const CONSOLE: &str = "console";
-
-/// The argument by which only failures are told.
-pub const QUIET: &str = "quiet";
-
-/// The argument for the number of records after which serving ends.
-pub const RECORDS: &str = "records";
-
-/// The argument for the number of turns after which a line ends.
-pub const TURNS: &str = "turns";
-
-/// The argument by which serving ends cleanly as standard input ends.
-pub const UNTIL_EOF: &str = "until-eof";
+use std::alloc::{AllocError, Global};
 
 /// What a subcommand does.
 #[derive(Clone, Copy, PartialEq, Eq)]
@@ -96,6 +22,7 @@ pub enum Verb {
     Serve,
     Status,
     Stop,
+    Reload,
 }
 
 impl Verb {
@@ -112,6 +39,7 @@ impl Verb {
             Verb::Serve => "serve",
             Verb::Status => "status",
             Verb::Stop => "stop",
+            Verb::Reload => "reload",
         }
     }
 
@@ -127,6 +55,7 @@ impl Verb {
             "serve" => Some(Verb::Serve),
             "status" => Some(Verb::Status),
             "stop" => Some(Verb::Stop),
+            "reload" => Some(Verb::Reload),
             _ => None,
         }
     }
@@ -137,7 +66,7 @@ impl Verb {
     {
         match self {
             Verb::Check | Verb::Replay | Verb::Explain | Verb::Serve => FILE,
-            Verb::Status | Verb::Stop => ADDRESS,
+            Verb::Status | Verb::Stop | Verb::Reload => ADDRESS,
         }
     }
 }
@@ -164,22 +93,11 @@ pub enum CheckDepth {
 
 /// How a subscription file is to be checked.
 #[derive(Clone, Copy, PartialEq, Eq)]
-pub struct CheckOrder {
+pub struct CheckOrder<'a> {
     pub form: CheckForm,
     pub depth: CheckDepth,
-}
-
-/// The form in which a replay is told.
-#[derive(Clone, Copy, PartialEq, Eq)]
-pub enum ReplayForm<'a> {
-    /// Lines of frames in hexadecimal digits, and of charging records.
-    Digits,
-    /// Words for a person.
-    Words,
-    /// A ladder diagram.
-    Ladder,
-    /// A capture, in the file of this name.
-    Capture(&'a str),
+    /// The name of the subscription file that was in force before, where the changes are to be told.
+    pub after: Option<&'a str>,
 }
 
 /// A call request whose decision is to be explained.
@@ -200,38 +118,6 @@ pub struct QuestionOrder<'a> {
     /// Whether the exit status tells that the call request is refused.
     pub status: bool,
 }
-
-/// What is to be traced as lines are served.
-#[derive(Clone, Copy, PartialEq, Eq)]
-pub struct TraceOrder<'a> {
-    /// The name of the file of the trace.
-    pub path: &'a str,
-    /// The names of the lines that are traced, with commas between them; where absent all are.
-    pub lines: Option<&'a str>,
-}
-
-/// How the lines are to be served.
-#[derive(Clone, Copy, PartialEq, Eq)]
-pub struct ServeOrder<'a> {
-    pub limits: Limits,
-    /// Where call detail records go, if they are to be written.
-    pub details: Option<DetailsOrder<'a>>,
-    /// The name of the file of live calls, if it is given one. Only where call detail records are written.
-    pub live: Option<&'a str>,
-    /// Whether live calls are not kept.
-    pub no_live: bool,
-    /// The name of the exchange, if it is given one. It is that of an exchange.
-    pub exchange: Option<&'a str>,
-    /// What is to be traced, if anything.
-    pub trace: Option<TraceOrder<'a>>,
-    /// The address at which the console is to be, if there is to be one.
-    pub console: Option<&'a str>,
-    /// Whether only failures are told on standard error.
-    pub quiet: bool,
-    /// Whether serving ends cleanly as standard input ends.
-    pub until_eof: bool,
-}
-
 /// What a console is asked for.
 #[derive(Clone, Copy, PartialEq, Eq)]
 pub enum ConsoleRequest {
@@ -239,15 +125,17 @@ pub enum ConsoleRequest {
     Status,
     /// To stop the exchange.
     Stop,
+    /// To read its subscription file again.
+    Reload,
 }
 
 /// A subcommand of the program.
-#[derive(Clone, Copy, PartialEq, Eq)]
+#[derive(Drop)]
 pub enum Subcommand<'a> {
     /// Checks a subscription file.
-    Check(CheckOrder),
+    Check(CheckOrder<'a>),
     /// Replays a script from standard input.
-    Replay(ReplayForm<'a>),
+    Replay(ReplayOrder<'a>),
     /// Explains how a call request is decided.
     Explain(QuestionOrder<'a>),
     /// Serves the lines over TCP.
@@ -258,38 +146,66 @@ pub enum Subcommand<'a> {
 
 impl<'a> Subcommand<'a> {
     /// The subcommand of a word, with its arguments.
-    pub fn named(word: &str, matches: &ArgMatches<'a>) -> Option<Subcommand<'a>>
-        ensures found { IfSome result (λ subcommand. IsSubcommand word.now (rows_of (found_of matches.now)) subcommand) }
-        ensures none { IfNone result ((subcommand : Subcommand) → IsSubcommand word.now (rows_of (found_of matches.now)) subcommand → ⊥) }
+    ///
+    /// # Errors
+    ///
+    /// An allocation failed.
+    pub fn named(
+        alloc: Global,
+        word: &str,
+        matches: &ArgMatches<'a>,
+    ) -> Result<Option<Subcommand<'a>>, AllocError>
+        ensures found { IfOk result (λ found. IfSome found (λ subcommand. IsSubcommand word.now (rows_of (found_of matches.now)) subcommand)) }
+        ensures none { IfOk result (λ found. IfNone found ((subcommand : Subcommand) → IsSubcommand word.now (rows_of (found_of matches.now)) subcommand → ⊥)) }
     {
-        let verb = Verb::named(word)?;
-        Subcommand::with(verb, matches)
+        match Verb::named(word) {
+            Some(verb) => Subcommand::with(alloc, verb, matches),
+            None => Ok(None),
+        }
     }
 
     /// The subcommand of a verb, with its arguments.
-    fn with(verb: Verb, matches: &ArgMatches<'a>) -> Option<Subcommand<'a>>
-        ensures found { IfSome result (λ subcommand. (verb_of subcommand ≡ verb) × Suits (rows_of (found_of matches.now)) subcommand) }
-        ensures none { IfNone result ((subcommand : Subcommand) → verb_of subcommand ≡ verb → Suits (rows_of (found_of matches.now)) subcommand → ⊥) }
+    fn with(
+        alloc: Global,
+        verb: Verb,
+        matches: &ArgMatches<'a>,
+    ) -> Result<Option<Subcommand<'a>>, AllocError>
+        ensures found { IfOk result (λ found. IfSome found (λ subcommand. (verb_of subcommand ≡ verb) × Suits (rows_of (found_of matches.now)) subcommand)) }
+        ensures none { IfOk result (λ found. IfNone found ((subcommand : Subcommand) → verb_of subcommand ≡ verb → Suits (rows_of (found_of matches.now)) subcommand → ⊥)) }
     {
         match verb {
-            Verb::Check => Some(Subcommand::Check(CheckOrder {
-                form: check_form(matches),
-                depth: check_depth(matches),
-            })),
-            Verb::Replay => {
-                let form = replay_form(matches)?;
-                Some(Subcommand::Replay(form))
-            }
-            Verb::Explain => {
-                let question = question_of(matches)?;
-                Some(Subcommand::Explain(question))
-            }
-            Verb::Serve => {
-                let order = order_of(matches)?;
-                Some(Subcommand::Serve(order))
-            }
+            Verb::Replay => Subcommand::replaying(alloc, matches),
+            _ => Ok(Subcommand::without_replay(verb, matches)),
+        }
+    }
+
+    /// The subcommand that replays a script, with its arguments.
+    fn replaying(
+        alloc: Global,
+        matches: &ArgMatches<'a>,
+    ) -> Result<Option<Subcommand<'a>>, AllocError>
+        ensures found { IfOk result (λ found. IfSome found (λ subcommand. (verb_of subcommand ≡ Verb.Replay) × Suits (rows_of (found_of matches.now)) subcommand)) }
+        ensures none { IfOk result (λ found. IfNone found ((subcommand : Subcommand) → verb_of subcommand ≡ Verb.Replay → Suits (rows_of (found_of matches.now)) subcommand → ⊥)) }
+    {
+        match replay_of(alloc, matches)? {
+            Some(order) => Ok(Some(Subcommand::Replay(order))),
+            None => Ok(None),
+        }
+    }
+
+    /// The subcommand of a verb that does not replay a script, with its arguments.
+    fn without_replay(verb: Verb, matches: &ArgMatches<'a>) -> Option<Subcommand<'a>>
+        ensures found { verb ≢ Verb.Replay → IfSome result (λ subcommand. (verb_of subcommand ≡ verb) × Suits (rows_of (found_of matches.now)) subcommand) }
+        ensures none { verb ≢ Verb.Replay → IfNone result ((subcommand : Subcommand) → verb_of subcommand ≡ verb → Suits (rows_of (found_of matches.now)) subcommand → ⊥) }
+    {
+        match verb {
+            Verb::Check => Some(Subcommand::Check(check_of(matches))),
+            Verb::Explain => Some(Subcommand::Explain(question_of(matches)?)),
+            Verb::Serve => Some(Subcommand::Serve(order_of(matches)?)),
             Verb::Status => Some(Subcommand::Ask(ConsoleRequest::Status)),
             Verb::Stop => Some(Subcommand::Ask(ConsoleRequest::Stop)),
+            Verb::Reload => Some(Subcommand::Ask(ConsoleRequest::Reload)),
+            Verb::Replay => None,
         }
     }
 
@@ -304,8 +220,19 @@ impl<'a> Subcommand<'a> {
             Subcommand::Serve(_) => Verb::Serve,
             Subcommand::Ask(ConsoleRequest::Status) => Verb::Status,
             Subcommand::Ask(ConsoleRequest::Stop) => Verb::Stop,
+            Subcommand::Ask(ConsoleRequest::Reload) => Verb::Reload,
         }
     }
+}
+
+/// How the arguments ask a subscription file to be checked.
+fn check_of<'a>(matches: &ArgMatches<'a>) -> CheckOrder<'a>
+    ensures { IsCheck (rows_of (found_of matches.now)) result }
+{
+    let form = check_form(matches);
+    let depth = check_depth(matches);
+    let after = matches.get_str(AFTER);
+    CheckOrder { form, depth, after }
 }
 
 /// The form in which the arguments ask for what a subscription file sets up.
@@ -332,31 +259,6 @@ fn check_depth(matches: &ArgMatches) -> CheckDepth
     }
 }
 
-/// The form in which the arguments ask for a replay: at most one of three.
-fn replay_form<'a>(matches: &ArgMatches<'a>) -> Option<ReplayForm<'a>>
-    ensures found { IfSome result (λ form. HasReplayForm (rows_of (found_of matches.now)) form) }
-    ensures none { IfNone result ((form : ReplayForm) → HasReplayForm (rows_of (found_of matches.now)) form → ⊥) }
-{
-    let words = is_true(matches, WORDS);
-    let ladder = is_true(matches, LADDER);
-    let capture = matches.get_str(PCAP);
-    one_form(words, ladder, capture)
-}
-
-/// The one form that is asked for. `None` where several are.
-fn one_form<'a>(words: bool, ladder: bool, capture: Option<&'a str>) -> Option<ReplayForm<'a>>
-    ensures found { IfSome result (IsOneForm words ladder (option_map (λ path. path.now) capture.entry)) }
-    ensures none { IfNone result ((form : ReplayForm) → IsOneForm words ladder (option_map (λ path. path.now) capture.entry) form → ⊥) }
-{
-    match (words, ladder, capture) {
-        (false, false, None) => Some(ReplayForm::Digits),
-        (true, false, None) => Some(ReplayForm::Words),
-        (false, true, None) => Some(ReplayForm::Ladder),
-        (false, false, Some(path)) => Some(ReplayForm::Capture(path)),
-        _ => None,
-    }
-}
-
 /// The call request whose decision the arguments ask to be explained.
 fn question_of<'a>(matches: &ArgMatches<'a>) -> Option<QuestionOrder<'a>>
     ensures found { IfSome result (λ question. IsQuestion (rows_of (found_of matches.now)) question) }
@@ -378,132 +280,4 @@ fn question_of<'a>(matches: &ArgMatches<'a>) -> Option<QuestionOrder<'a>>
         busy,
         status,
     })
-}
-
-/// How the arguments ask the lines to be served.
-fn order_of<'a>(matches: &ArgMatches<'a>) -> Option<ServeOrder<'a>>
-    ensures found { IfSome result (λ order. IsOrder (rows_of (found_of matches.now)) order) }
-    ensures none { IfNone result ((order : ServeOrder) → IsOrder (rows_of (found_of matches.now)) order → ⊥) }
-{
-    let limits = limits_of(matches)?;
-    let trace = trace_of(matches)?;
-    let exchange = exchange_of(matches)?;
-    let details = details_of(matches)?;
-    let live = live_of(matches)?;
-    let no_live = is_true(matches, NO_LIVE);
-    let console = matches.get_str(CONSOLE);
-    let quiet = is_true(matches, QUIET);
-    let until_eof = is_true(matches, UNTIL_EOF);
-    Some(ServeOrder {
-        limits,
-        details,
-        live,
-        no_live,
-        exchange,
-        trace,
-        console,
-        quiet,
-        until_eof,
-    })
-}
-
-/// The name that the arguments give the exchange, if they do. `None` where they give a text that is none.
-fn exchange_of<'a>(matches: &ArgMatches<'a>) -> Option<Option<&'a str>>
-    ensures found { IfSome result (λ name. HasName (rows_of (found_of matches.now)) (option_map (λ name. name.now) name)) }
-    ensures none { IfNone result ((name : Option Text) → HasName (rows_of (found_of matches.now)) name → ⊥) }
-{
-    let name = matches.get_str(NAME);
-    named_so(name)
-}
-
-/// This name, where it is that of an exchange.
-fn named_so<'a>(name: Option<&'a str>) -> Option<Option<&'a str>>
-    ensures found { IfSome result (λ named. IsNamed (option_map (λ text. text.now) name.entry) (option_map (λ text. text.now) named)) }
-    ensures none { IfNone result ((named : Option Text) → IsNamed (option_map (λ text. text.now) name.entry) named → ⊥) }
-{
-    match name {
-        Some(text) if ExchangeName::is_name(text) => Some(Some(text)),
-        Some(_) => None,
-        None => Some(None),
-    }
-}
-
-/// The path that the arguments give the file of live calls, if they do. `None` where no call detail records are written beside it, or
-/// live calls are not to be kept.
-fn live_of<'a>(matches: &ArgMatches<'a>) -> Option<Option<&'a str>>
-    ensures found { IfSome result (λ path. HasLive (rows_of (found_of matches.now)) (option_map (λ path. path.now) path)) }
-    ensures none { IfNone result ((path : Option Text) → HasLive (rows_of (found_of matches.now)) path → ⊥) }
-{
-    let path = matches.get_str(LIVE);
-    let file = matches.get_str(CDR);
-    let directory = matches.get_str(CDR_DIR);
-    let details = either_of(file, directory);
-    let is_off = is_true(matches, NO_LIVE);
-    live_at(path, details, is_off)
-}
-
-/// The first of two texts that is there.
-fn either_of<'a>(text: Option<&'a str>, other: Option<&'a str>) -> Option<&'a str>
-    ensures { option_map (λ text. text.now) result ≡ either (option_map (λ text. text.now) text.entry) (option_map (λ text. text.now) other.entry) }
-{
-    match text {
-        Some(text) => Some(text),
-        None => other,
-    }
-}
-
-/// This path of a file of live calls, where it goes together with the others.
-fn live_at<'a>(
-    path: Option<&'a str>,
-    details: Option<&'a str>,
-    is_off: bool,
-) -> Option<Option<&'a str>>
-    ensures found { IfSome result (λ live. IsLive (option_map (λ text. text.now) path.entry) (option_map (λ text. text.now) details.entry) is_off (option_map (λ text. text.now) live)) }
-    ensures none { IfNone result ((live : Option Text) → IsLive (option_map (λ text. text.now) path.entry) (option_map (λ text. text.now) details.entry) is_off live → ⊥) }
-{
-    match (path, details, is_off) {
-        (None, _, _) => Some(None),
-        (Some(path), Some(_), false) => Some(Some(path)),
-        (Some(_), _, _) => None,
-    }
-}
-
-/// What the arguments ask to be traced, if anything. `None` where they name lines and no file.
-fn trace_of<'a>(matches: &ArgMatches<'a>) -> Option<Option<TraceOrder<'a>>>
-    ensures found { IfSome result (λ trace. HasTrace (rows_of (found_of matches.now)) trace) }
-    ensures none { IfNone result ((trace : Option TraceOrder) → HasTrace (rows_of (found_of matches.now)) trace → ⊥) }
-{
-    let path = matches.get_str(TRACE);
-    let lines = matches.get_str(TRACE_LINES);
-    trace_into(path, lines)
-}
-
-/// What is traced into a file, of these lines. `None` where there are lines and no file.
-fn trace_into<'a>(path: Option<&'a str>, lines: Option<&'a str>) -> Option<Option<TraceOrder<'a>>>
-    ensures found { IfSome result (IsTrace (option_map (λ path. path.now) path.entry) (option_map (λ names. names.now) lines.entry)) }
-    ensures none { IfNone result ((trace : Option TraceOrder) → IsTrace (option_map (λ path. path.now) path.entry) (option_map (λ names. names.now) lines.entry) trace → ⊥) }
-{
-    match (path, lines) {
-        (Some(path), lines) => Some(Some(TraceOrder { path, lines })),
-        (None, None) => Some(None),
-        (None, Some(_)) => None,
-    }
-}
-
-/// The limits that the arguments set to serving.
-fn limits_of(matches: &ArgMatches) -> Option<Limits>
-    ensures found { IfSome result (λ limits. HasLimits (rows_of (found_of matches.now)) limits) }
-    ensures none { IfNone result ((limits : Limits) → HasLimits (rows_of (found_of matches.now)) limits → ⊥) }
-{
-    Limits::read(matches.get_str(RECORDS), matches.get_str(TURNS))
-}
-
-/// Whether an argument that is there or not is there.
-pub(crate) fn is_true(matches: &ArgMatches, name: &str) -> bool
-    ensures { result ≡ says_true (first_of name.now (rows_of (found_of matches.now))) }
-{
-    match matches.get_str(name) {
-        Some(text) => text == "true",
-        None => false,
-    }
 }

@@ -1,7 +1,7 @@
 //! What the help of the program says, and its version.
 
 /// The version, which is the newest heading of CHANGELOG.md.
-pub(crate) const VERSION: &str = "2026-11-29";
+pub(crate) const VERSION: &str = "2026-11-30";
 
 pub(crate) const ABOUT: &str = "The call-control exchange of an X.25 packet network.";
 
@@ -15,8 +15,8 @@ Examples:
 
 The exit status is 0 when all was done, 1 for a call that is refused where
 explain --status asks, 2 for wrong arguments or a faulty line of a script, 3 for
-a subscription file that cannot be read or is refused, 4 for a full journal or
-want of memory, and 5 for input, output or a port that fails.";
+a subscription file that cannot be read, is refused or needs a stop, 4 for a
+full journal or want of memory, and 5 for input, output or a port that fails.";
 
 pub(crate) const CHECK_ABOUT: &str = "Checks a subscription file, and counts what it sets up";
 
@@ -29,8 +29,13 @@ With --serve the addresses in the FILE are looked at too, as `xp serve` does,
 and refused as there, with status 5. With --ports each port is listened on for
 a moment as well: it has to be free, so nobody may be serving this FILE.
 
-Example:
-  xp check examples/three-stations.toml --words --serve";
+With --after it tells what changes where FILE comes into force after OLD, and
+what each change does to calls. The exit status is 3 where this needs a stop of
+the exchange, and else 0: then `xp reload` brings it into force.
+
+Examples:
+  xp check examples/three-stations.toml --words --serve
+  xp check new.toml --after old.toml";
 
 pub(crate) const EXPLAIN_ABOUT: &str = "Explains how a call request is decided, rule by rule";
 
@@ -54,6 +59,7 @@ A line of a script is one of these, where NAME is a line of the FILE:
   expire NAME     the line's time to answer an incoming call is over
   in NAME DIGITS  octets come in, as hexadecimal digits: frames (RFC 1613)
   at N            the moment of the lines behind it is N, in seconds
+  tables NAME     the subscriptions of this NAME come into force (--tables)
 Empty lines, and those that begin with #, do nothing.
 
 Prints `out NAME DIGITS` for each frame that the exchange puts out, and
@@ -94,6 +100,11 @@ pub(crate) const LADDER_HELP: &str = "Prints the packets as a ladder diagram, 80
 
 pub(crate) const PCAP_HELP: &str =
     "Writes the packets into this file, as a capture that Wireshark reads";
+
+pub(crate) const TABLES_HELP: &str =
+    "Lets the script put the subscription file PATH into force by this NAME; may be given again";
+
+pub(crate) const AFTER_HELP: &str = "Tells what changes where OLD was in force before";
 
 pub(crate) const CALLER_HELP: &str = "The name of the calling line, or ADDRESS@ROUTER";
 
@@ -157,6 +168,18 @@ records are written, as at Ctrl-C.
 
 Example:
   xp stop 127.0.0.1:9980";
+
+pub(crate) const RELOAD_ABOUT: &str =
+    "Lets a serving exchange read its subscription file again, while calls go on";
+
+pub(crate) const RELOAD_DETAILS: &str = "\
+ADDRESS is that of `xp serve --console ADDRESS`. The exchange reads the file with
+which it was started. What changes in it is in force from the next call request
+on, and calls go on. Where it is refused, or needs a stop, nothing changes, and
+the exit status is 3. `xp check NEW --after OLD` tells so before.
+
+Example:
+  xp reload 127.0.0.1:9980";
 
 pub(crate) const FILE_HELP: &str = "The subscription file (TOML): the stations and their lines";
 

@@ -6,6 +6,7 @@ mod LineLemmas
 pub mod MomentLemmas
 mod NameLemmas
 mod PlainLemmas
+mod RecordLemmas
 mod SentLemmas
 mod TextLemmas
 mod WriterLemmas

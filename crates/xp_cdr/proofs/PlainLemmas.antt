@@ -1,5 +1,5 @@
 -- No field of a call detail record has an octet that calls for quotes.
-use Rattle.std.proofs.Common.{◌≡◌, ℕ, zero, suc, ◌+◌, ◌/◌, ◌%◌, ◌≤◌, ◌<◌, Bool, true, false, cond, nat_eq, nat_le, List, [], ◌∷◌, ◌++◌, Option, None, Some, IfSome, ap, append-nil, arith, decimal, get_or, refl, ◌∙◌, ◌||◌}
+use Rattle.std.proofs.Common.{◌≡◌, ℕ, zero, suc, ◌+◌, ◌/◌, ◌%◌, ◌≤◌, ◌<◌, Bool, true, false, cond, nat_eq, nat_le, List, [], ◌∷◌, ◌++◌, Option, None, Some, IfSome, ap, append-nil, arith, decimal, get_or, option_map, refl, ◌∙◌, ◌||◌}
 use Rattle.std.proofs.lemmas.Bool.{and_parts, or_parts}
 use Rattle.std.proofs.lemmas.Bool.Decides.{nat_tests}
 use Rattle.std.specs.Fmt.{digit_glyph, digits, digits_onto}
@@ -14,10 +14,12 @@ use Rattle.xp_packets.specs.declared.end.End.TheVariants.{Caller, Called}
 use Rattle.xp_file.specs.Name.{is_line_letter}
 use Rattle.xp_subs.specs.Sound.{IsSound}
 use Rattle.xp_subs.specs.Tables.{Tables, address_of, line_count}
+use Rattle.xp_charge.specs.declared.record.Record.{Record}
 use Rattle.xp_charge.specs.Duration.{seconds_of}
 use Rattle.xp_charge.specs.Lines.{HasLines}
 use Rattle.xp_charge.specs.Text.{name_of, payer_text}
 use Rattle.xp_cdr.specs.Details.{AreJoined, call_fields, called_fields, charge_fields, connected_text, detail_fields, detail_text, end_fields, ended_by_text, line_fields, moment_fields, origin_fields}
+use Rattle.xp_cdr.specs.Ended.{ended_as, named_line}
 use Rattle.xp_cdr.specs.Names.{IsExchangeName, is_exchange_letter}
 use Rattle.xp_cdr.specs.declared.ended.EndedBy.{EndedBy}
 use Rattle.xp_cdr.specs.declared.ended.EndedBy.TheVariants.{Call, Stop, Partial}
@@ -116,11 +118,11 @@ plain_letters : (name : List ℕ) → list_all is_line_letter name ≡ true → 
 plain_letters [] all = plain_none
 plain_letters (octet ∷ name) all = plain_cons octet name (letter_high octet ((and_parts _ _ all).0)) (plain_letters name ((and_parts _ _ all).1))
 
-plain_line : (tables : Tables) (line : ℕ) → IsSound tables → line < line_count tables → ArePlain (line_fields tables line)
+plain_line : (tables : Tables) (line : ℕ) → IsSound tables → line < line_count tables → ArePlain (line_fields (named_line tables line))
 plain_line tables line sound there =
     (plain_letters (name_of tables line) (and_parts _ _ (sound.spelled line there)).1, (plain_digits (address_of tables line), tt))
 
-plain_called : (tables : Tables) (called : Option ℕ) → IsSound tables → IfSome called (λ line. line < line_count tables) → ArePlain (called_fields tables called)
+plain_called : (tables : Tables) (called : Option ℕ) → IsSound tables → IfSome called (λ line. line < line_count tables) → ArePlain (called_fields (option_map (named_line tables) called))
 plain_called tables None sound there = (plain_none, (plain_none, tt))
 plain_called tables (Some line) sound there = plain_line tables line sound there
 
@@ -146,18 +148,18 @@ plain_end Call = record { none = refl }
 plain_end Stop = record { none = refl }
 plain_end Partial = record { none = refl }
 
-plain_fields : (tables : Tables) (run : ExchangeRun) (call : EndedCall) → IsSound tables → HasLines (line_count tables) call.charging → IsExchangeName run.exchange
-    → ArePlain (detail_fields tables run call)
-plain_fields tables run call sound lines name =
-    let ended = call.charging in
+plain_fields : (tables : Tables) (run : ExchangeRun) (by : EndedBy) (ended : Record) → IsSound tables → HasLines (line_count tables) ended → IsExchangeName run.exchange
+    → ArePlain (detail_fields run (ended_as tables by ended))
+plain_fields tables run by ended sound lines name =
+    let call : EndedCall = ended_as tables by ended in
     let caller = plain_line tables ended.caller sound lines.caller in
     let called = plain_called tables ended.called sound lines.called in
-    let which : ArePlain (call_fields tables run.started ended) = (
+    let which : ArePlain (call_fields run.started call) = (
       plain_moment run.started,
       (
         plain_decimal ended.number,
-        plain_both (line_fields tables ended.caller ++ called_fields tables ended.called) (text_of ended.dialled ∷ [])
-            (plain_both (line_fields tables ended.caller) (called_fields tables ended.called) caller called)
+        plain_both (line_fields call.caller ++ called_fields call.called) (text_of ended.dialled ∷ [])
+            (plain_both (line_fields call.caller) (called_fields call.called) caller called)
             (plain_digits ended.dialled, tt),
       ),
     ) in
@@ -165,11 +167,11 @@ plain_fields tables run call sound lines name =
     let moments : ArePlain (moment_fields ended) =
     (plain_moment ended.requested, (plain_connected ended.connected, (plain_moment ended.ended, (plain_decimal (seconds_of ended), tt)))) in
     let end : ArePlain (end_fields ended) = (plain_hex ended.cause, (plain_decimal ended.diagnostic, tt)) in
-    let origin : ArePlain (origin_fields run call.ended_by) = (plain_exchange run.exchange name, (plain_end call.ended_by, tt)) in
-    plain_both (call_fields tables run.started ended ++ charge_fields ended ++ moment_fields ended ++ end_fields ended) (origin_fields run call.ended_by)
-    (plain_both (call_fields tables run.started ended ++ charge_fields ended ++ moment_fields ended) (end_fields ended)
-    (plain_both (call_fields tables run.started ended ++ charge_fields ended) (moment_fields ended)
-    (plain_both (call_fields tables run.started ended) (charge_fields ended) which charge) moments) end) origin
+    let origin : ArePlain (origin_fields run by) = (plain_exchange run.exchange name, (plain_end by, tt)) in
+    plain_both (call_fields run.started call ++ charge_fields ended ++ moment_fields ended ++ end_fields ended) (origin_fields run by)
+    (plain_both (call_fields run.started call ++ charge_fields ended ++ moment_fields ended) (end_fields ended)
+    (plain_both (call_fields run.started call ++ charge_fields ended) (moment_fields ended)
+    (plain_both (call_fields run.started call) (charge_fields ended) which charge) moments) end) origin
 
 -- plain fields are written as they are, with commas between them
 plain_field : (field : List ℕ) → IsPlain field → field_text default_writer field ≡ field
@@ -190,4 +192,4 @@ row_joined first next rest plain =
 
 pub are_joined : AreJoined
 unfolding detail_text
-are_joined tables run call sound lines name = row_joined _ _ _ (plain_fields tables run call sound lines name)
+are_joined tables run by ended sound lines name = row_joined _ _ _ (plain_fields tables run by ended sound lines name)

@@ -8,16 +8,18 @@ use Rattle.csv.specs.declared.parser.State.TheVariants.{StartRecord}
 use Rattle.hex.specs.Hex.{encode_lower}
 use Rattle.xp_packets.specs.Digits.{text_of}
 use Rattle.xp_subs.specs.Sound.{IsSound}
-use Rattle.xp_subs.specs.Tables.{Tables, address_of, line_count}
+use Rattle.xp_subs.specs.Tables.{Tables, line_count}
 use Rattle.xp_charge.specs.declared.record.Record.{Record}
 use Rattle.xp_charge.specs.Duration.{seconds_of}
 use Rattle.xp_charge.specs.Lines.{HasLines}
-use Rattle.xp_charge.specs.Text.{name_of, payer_text}
+use Rattle.xp_charge.specs.Text.{payer_text}
+use Rattle.xp_cdr.specs.Ended.{ended_as}
 use Rattle.xp_cdr.specs.Moments.{moment_text}
 use Rattle.xp_cdr.specs.Names.{IsExchangeName}
 use Rattle.xp_cdr.specs.declared.ended.EndedBy.{EndedBy}
 use Rattle.xp_cdr.specs.declared.ended.EndedBy.TheVariants.{Call, Stop, Partial}
 use Rattle.xp_cdr.specs.declared.ended.EndedCall.{EndedCall}
+use Rattle.xp_cdr.specs.declared.ended.NamedLine.{NamedLine}
 use Rattle.xp_cdr.specs.declared.run.ExchangeRun.{ExchangeRun}
 
 -- the names of the fields, as the first line of a file
@@ -26,13 +28,13 @@ header_text =
     codes "started,number,caller_line,caller_address,called_line,called_address,dialled,payer,segments_from_caller,segments_from_called,requested,connected,ended,seconds,cause,diagnostic,exchange,ended_by\n"
 
 -- the name and the address of a line
-abbrev pub line_fields : Tables → ℕ → List (List ℕ)
-line_fields tables line = name_of tables line ∷ text_of (address_of tables line) ∷ []
+abbrev pub line_fields : NamedLine → List (List ℕ)
+line_fields line = line.name ∷ text_of line.address ∷ []
 
 -- both are empty if there is no line
-abbrev pub called_fields : Tables → Option ℕ → List (List ℕ)
-called_fields tables None = [] ∷ [] ∷ []
-called_fields tables (Some line) = line_fields tables line
+abbrev pub called_fields : Option NamedLine → List (List ℕ)
+called_fields None = [] ∷ [] ∷ []
+called_fields (Some line) = line_fields line
 
 -- empty if there is no moment
 abbrev pub connected_text : Option ℕ → List ℕ
@@ -40,13 +42,13 @@ connected_text None = []
 connected_text (Some moment) = moment_text moment
 
 -- which call it was
-abbrev pub call_fields : Tables → ℕ → Record → List (List ℕ)
-call_fields tables started ended =
+abbrev pub call_fields : ℕ → EndedCall → List (List ℕ)
+call_fields started call =
     moment_text started
-    ∷ decimal ended.number
-    ∷ line_fields tables ended.caller
-    ++ called_fields tables ended.called
-    ++ text_of ended.dialled
+    ∷ decimal call.charging.number
+    ∷ line_fields call.caller
+    ++ called_fields call.called
+    ++ text_of call.charging.dialled
     ∷ []
 
 -- who pays, and for how much
@@ -77,28 +79,29 @@ abbrev pub origin_fields : ExchangeRun → EndedBy → List (List ℕ)
 origin_fields run ended_by = run.exchange ∷ ended_by_text ended_by ∷ []
 
 -- the eighteen fields of a call detail record
-abbrev pub detail_fields : Tables → ExchangeRun → EndedCall → List (List ℕ)
-detail_fields tables run call =
-    call_fields tables run.started call.charging
+abbrev pub detail_fields : ExchangeRun → EndedCall → List (List ℕ)
+detail_fields run call =
+    call_fields run.started call
     ++ charge_fields call.charging
     ++ moment_fields call.charging
     ++ end_fields call.charging
     ++ origin_fields run call.ended_by
 
 -- The call detail record of an ended call, of a run of an exchange: its fields as a line of CSV.
-unfoldable pub detail_text : Tables → ExchangeRun → EndedCall → List ℕ
-detail_text tables run call = row_text default_writer (detail_fields tables run call)
+unfoldable pub detail_text : ExchangeRun → EndedCall → List ℕ
+detail_text run call = row_text default_writer (detail_fields run call)
 
 -- A reader of CSV reads the eighteen fields back, whatever follows the line.
 abbrev pub AreReadBack : Type 0
 AreReadBack =
-    (tables : Tables) (run : ExchangeRun) (call : EndedCall) (rest : List ℕ)
-    → next_record default_config StartRecord [] [] (detail_text tables run call ++ rest)
-    ≡ Some (detail_fields tables run call, StartRecord, rest)
+    (run : ExchangeRun) (call : EndedCall) (rest : List ℕ)
+    → next_record default_config StartRecord [] [] (detail_text run call ++ rest)
+    ≡ Some (detail_fields run call, StartRecord, rest)
 
--- No field needs quotes: the line is the eighteen fields with commas between them, and then a line feed.
+-- No field needs quotes: the line is the eighteen fields with commas between them, and then a line feed. Its lines are as subscriptions
+-- name them.
 abbrev pub AreJoined : Type 0
 AreJoined =
-    (tables : Tables) (run : ExchangeRun) (call : EndedCall) → IsSound tables → HasLines (line_count tables) call.charging
+    (tables : Tables) (run : ExchangeRun) (by : EndedBy) (ended : Record) → IsSound tables → HasLines (line_count tables) ended
     → IsExchangeName run.exchange
-    → detail_text tables run call ≡ join_with_byte 44 (detail_fields tables run call) ++ 10 ∷ []
+    → detail_text run (ended_as tables by ended) ≡ join_with_byte 44 (detail_fields run (ended_as tables by ended)) ++ 10 ∷ []

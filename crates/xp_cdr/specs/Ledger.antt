@@ -1,16 +1,14 @@
 -- Call detail records on their way to a file.
-use Rattle.std.specs.Prelude.{◌≡◌, ℕ, ◌+◌, List, [], ◌++◌, flat_map, length, slice_index_or, None, Result, Ok, Err}
-use Rattle.xp_subs.specs.Tables.{Tables}
+use Rattle.std.specs.Prelude.{◌≡◌, ℕ, ◌+◌, List, [], ◌++◌, flat_map, length, Result, Ok, Err}
 use Rattle.xp_cdr.specs.Details.{detail_text}
 use Rattle.xp_cdr.specs.Files.{HasFront}
 use Rattle.xp_cdr.specs.declared.ended.EndedCall.{EndedCall}
 use Rattle.xp_cdr.specs.declared.run.ExchangeRun.{ExchangeRun}
 
 pub record Ledger : Type 0 where
-  -- the subscriptions that the details are told by, and the run of which exchange they are of
-  pub subs : Tables
+  -- the run of which exchange they are of
   pub run : ExchangeRun
-  -- the records that were given, in order, each with by what its call ended
+  -- the calls that were given, in order, each with its record, by what it ended, and its lines as they were named then
   pub given : List EndedCall
   -- what the file has taken since it was opened, and the front of that which it has on the disk; where new files were begun at its
   -- path or for later parts, what all of them have, one after the other
@@ -23,7 +21,7 @@ pub record Ledger : Type 0 where
 
 -- the call detail records of these records, in order
 abbrev pub details_text : Ledger → List EndedCall → List ℕ
-details_text ledger records = flat_map (detail_text ledger.subs ledger.run) records
+details_text ledger records = flat_map (detail_text ledger.run) records
 
 -- What is on the disk, and then what waits, is the call detail records of all records that were given: each once, in order, and
 -- whole. Behind what is on the disk the file has taken nothing but a front of what waits.
@@ -49,9 +47,8 @@ pub record IsUnfinished (ledger : Ledger) (lines : List ℕ) : Type 0 where
   pub synced_is : ledger.synced ≡ details_text ledger whole
 
 -- a ledger of an open file, to which no record was given
-abbrev pub opening : Tables → ExchangeRun → Ledger
-opening tables run =
-    record { subs = tables; run = run; given = []; taken = []; synced = []; waiting = []; failures = 0 }
+abbrev pub opening : ExchangeRun → Ledger
+opening run = record { run = run; given = []; taken = []; synced = []; waiting = []; failures = 0 }
 
 -- more records were given
 abbrev pub with_given : Ledger → List EndedCall → Ledger
@@ -67,7 +64,6 @@ pub record Takes (old new : Ledger) : Type 0 where
   pub more : List ℕ
   pub waited : old.waiting ≡ more ++ new.waiting
   pub synced : new.synced ≡ old.synced ++ more
-  pub subs : new.subs ≡ old.subs
   pub run : new.run ≡ old.run
   pub given : new.given ≡ old.given
 
@@ -82,11 +78,3 @@ pub record HasAll (ledger : Ledger) : Type 0 where
 abbrev pub Flushes : {E : Type 0} → Ledger → Result (Unit {0}) E → Ledger → Type 0
 Flushes old (Ok done) new = Takes old new × HasAll new × (new.failures ≡ old.failures)
 Flushes old (Err fault) new = Takes old new × (new.failures ≡ old.failures + 1) × IsUnfinished new new.waiting
-
--- the subscriptions of an exchange without lines
-abbrev pub no_tables : Tables
-no_tables = record { stations = []; lines = []; groups = []; segment_limit = 0; journal = 0; host = []; xot_port = 0; name = None }
-
--- the subscriptions that a writer began with
-abbrev pub first_tables : List Tables → Tables
-first_tables told_by = slice_index_or told_by 0 no_tables

@@ -5,4 +5,5 @@ pub mod Ledger
 pub mod Moments
 pub mod Names
 pub mod Parts
+pub mod RecordLine
 pub mod steps

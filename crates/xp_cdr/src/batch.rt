@@ -1,8 +1,6 @@
 //! Several call detail records as one text.
 
-ghost use Rattle.std.specs.Prelude.{◌≡◌, ◌∷◌, [], ◌+◌, ◌^◌, ◌<◌, All, IfNone, IfSome, OnErr, OnOk, drop, length};
-ghost use Rattle.xp_charge.specs.Lines.{HasLines};
-ghost use Rattle.xp_subs.specs.Tables.{line_count};
+ghost use Rattle.std.specs.Prelude.{◌≡◌, ◌∷◌, [], ◌+◌, ◌^◌, ◌<◌, IfNone, IfSome, OnErr, OnOk, drop, length};
 ghost use Rattle.xp_cdr.specs.Details.{detail_text};
 ghost use Rattle.xp_cdr.specs.steps.Batch.{end_of_all, no_texts, with_text, with_texts};
 
@@ -13,7 +11,6 @@ use crate::record_file::RecordFile;
 use crate::run::ExchangeRun;
 use std::alloc::{AllocError, Global};
 use std::marker::Model;
-use xp_subs::Subs;
 
 /// Call detail records, one after the other, with cuts where the text of a later part begins.
 #[derive(Drop)]
@@ -111,19 +108,17 @@ impl Batch {
     pub fn push_all<F: RecordFile>(
         &mut self,
         file: &F,
-        subs: &Subs,
         run: &ExchangeRun,
         calls: &[EndedCall],
     ) -> Result<(), AllocError>
-        requires { All (λ call. HasLines (line_count subs.now) call.charging) calls.now }
-        ensures ok { OnOk result (self.new ≡ with_texts F.part_of (detail_text subs.now run.now) self.old calls.now) }
+        ensures ok { OnOk result (self.new ≡ with_texts F.part_of (detail_text run.now) self.old calls.now) }
         ensures err { OnErr result (self.new ≡ self.old) }
     {
         let (octets, count) = (self.octets.len(), self.count);
         let (cuts, part) = (self.cuts.len(), self.part);
         for call in calls {
             let own = file.part_at(call.charging.ended);
-            match self.push(own, subs, run, call) {
+            match self.push(own, run, call) {
                 Ok(()) => {}
                 Err(refused) => {
                     self.octets.truncate(octets);
@@ -138,15 +133,8 @@ impl Batch {
     }
 
     /// Adds the call detail record of a call of this part, or nothing if memory is wanting.
-    fn push(
-        &mut self,
-        part: u64,
-        subs: &Subs,
-        run: &ExchangeRun,
-        call: &EndedCall,
-    ) -> Result<(), AllocError>
-        requires { HasLines (line_count subs.now) call.now.charging }
-        ensures ok { OnOk result (self.new ≡ with_text self.old part (detail_text subs.now run.now call.now)) }
+    fn push(&mut self, part: u64, run: &ExchangeRun, call: &EndedCall) -> Result<(), AllocError>
+        ensures ok { OnOk result (self.new ≡ with_text self.old part (detail_text run.now call.now)) }
         ensures err { OnErr result (self.new ≡ self.old) }
     {
         let count = self.count.checked_add(1).ok_or(AllocError)?;
@@ -157,7 +145,7 @@ impl Batch {
             count: self.count,
         };
         let alloc = *self.octets.allocator();
-        write_detail(alloc, subs, run, call, &mut self.octets)?;
+        write_detail(alloc, run, call, &mut self.octets)?;
         self.count = count;
         if self.part < part {
             self.cuts.push_reserved(cut);

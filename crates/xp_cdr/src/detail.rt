@@ -3,8 +3,6 @@
 ghost use Rattle.std.specs.Prelude.{◌≡◌, ◌++◌, IfOk, OnErr, OnOk};
 ghost use Rattle.csv.specs.Records.{fields_of, partial_of};
 ghost use Rattle.csv.specs.Writing.{default_writer, row_text};
-ghost use Rattle.xp_charge.specs.Lines.{HasLines};
-ghost use Rattle.xp_subs.specs.Tables.{line_count};
 ghost use Rattle.xp_cdr.specs.Details.{detail_fields, detail_text, header_text};
 
 use crate::ended::EndedCall;
@@ -12,7 +10,6 @@ use crate::fields::{push_call, push_charge, push_end, push_moments, push_origin}
 use crate::run::ExchangeRun;
 use csv::{ByteRecord, Writer};
 use std::alloc::{AllocError, Allocator, Global};
-use xp_subs::Subs;
 
 /// The first line of a file of call detail records: the names of the fields.
 pub const HEADER: &str =
@@ -43,32 +40,24 @@ pub fn write_header<A: Allocator>(text: &mut Vec<u8, A>) -> Result<(), AllocErro
 #[tactic(auto, unfolding(crate::specs::Details::detail_text))]
 pub fn write_detail<A: Allocator>(
     alloc: Global,
-    subs: &Subs,
     run: &ExchangeRun,
     call: &EndedCall,
     text: &mut Vec<u8, A>,
 ) -> Result<(), AllocError>
-    requires { HasLines (line_count subs.now) call.now.charging }
-    ensures ok { OnOk result (text.new.items ≡ text.old.items ++ detail_text subs.now run.now call.now) }
+    ensures ok { OnOk result (text.new.items ≡ text.old.items ++ detail_text run.now call.now) }
     ensures err { OnErr result (text.new.items ≡ text.old.items) }
 {
-    let row = row_of(alloc, subs, run, call)?;
+    let row = row_of(alloc, run, call)?;
     let line = line_of(alloc, &row)?;
     text.extend_from_slice(line.as_slice())
 }
 
 /// The fields of a call detail record.
-fn row_of(
-    alloc: Global,
-    subs: &Subs,
-    run: &ExchangeRun,
-    call: &EndedCall,
-) -> Result<ByteRecord, AllocError>
-    requires { HasLines (line_count subs.now) call.now.charging }
-    ensures { IfOk result (λ row. fields_of row ≡ detail_fields subs.now run.now call.now) }
+fn row_of(alloc: Global, run: &ExchangeRun, call: &EndedCall) -> Result<ByteRecord, AllocError>
+    ensures { IfOk result (λ row. fields_of row ≡ detail_fields run.now call.now) }
 {
     let mut row = ByteRecord::new(alloc);
-    push_call(&mut row, subs, run.started, &call.charging)?;
+    push_call(&mut row, run.started, call)?;
     push_charge(&mut row, &call.charging)?;
     push_moments(&mut row, &call.charging)?;
     push_end(&mut row, &call.charging)?;

@@ -1,15 +1,13 @@
 //! The fields of a call detail record. Each function adds fields to a row that has no field begun.
 
-ghost use Rattle.std.specs.Prelude.{◌≡◌, ◌<◌, [], ◌∷◌, ◌++◌, decimal, IfSome, OnOk};
+ghost use Rattle.std.specs.Prelude.{◌≡◌, [], ◌∷◌, ◌++◌, decimal, OnOk};
 ghost use Rattle.csv.specs.Records.{fields_of, partial_of};
 ghost use Rattle.hex.specs.Hex.{encode_lower};
 ghost use Rattle.xp_packets.specs.Digits.{text_of};
-ghost use Rattle.xp_charge.specs.Lines.{HasLines};
 ghost use Rattle.xp_charge.specs.Text.{payer_text};
-ghost use Rattle.xp_subs.specs.Tables.{line_count};
 ghost use Rattle.xp_cdr.specs.Details.{call_fields, called_fields, charge_fields, connected_text, end_fields, ended_by_text, line_fields, moment_fields, origin_fields};
 
-use crate::ended::EndedBy;
+use crate::ended::{EndedBy, EndedCall, NamedLine};
 use crate::moment::push_moment;
 use crate::run::ExchangeRun;
 use arrayvec::ArrayVec;
@@ -18,25 +16,18 @@ use itoa::Buffer;
 use std::alloc::AllocError;
 use xp_charge::Record;
 use xp_packets::{Digits, End};
-use xp_subs::{LineNo, Subs};
 
 /// Adds which call it was: its number in which run of the exchange, its lines and the dialled digits.
-pub fn push_call(
-    row: &mut ByteRecord,
-    subs: &Subs,
-    started: u64,
-    ended: &Record,
-) -> Result<(), AllocError>
+pub fn push_call(row: &mut ByteRecord, started: u64, call: &EndedCall) -> Result<(), AllocError>
     requires begun { partial_of row.old ≡ [] }
-    requires lines { HasLines (line_count subs.now) ended.now }
-    ensures fields { OnOk result (fields_of row.new ≡ fields_of row.old ++ call_fields subs.now started ended.now) }
+    ensures fields { OnOk result (fields_of row.new ≡ fields_of row.old ++ call_fields started call.now) }
     ensures whole { OnOk result (partial_of row.new ≡ []) }
 {
     push_moment(row, started)?;
-    push_number(row, ended.number)?;
-    push_line(row, subs, ended.caller)?;
-    push_called(row, subs, ended.called)?;
-    push_digits(row, &ended.dialled)
+    push_number(row, call.charging.number)?;
+    push_line(row, &call.caller)?;
+    push_called(row, &call.called)?;
+    push_digits(row, &call.charging.dialled)
 }
 
 /// Adds who pays, and for how many segments.
@@ -108,25 +99,23 @@ fn push_octet(row: &mut ByteRecord, octet: u8) -> Result<(), AllocError>
 }
 
 /// Adds the name and the address of a line.
-fn push_line(row: &mut ByteRecord, subs: &Subs, line: LineNo) -> Result<(), AllocError>
+fn push_line(row: &mut ByteRecord, line: &NamedLine) -> Result<(), AllocError>
     requires begun { partial_of row.old ≡ [] }
-    requires line { line < line_count subs.now }
-    ensures fields { OnOk result (fields_of row.new ≡ fields_of row.old ++ line_fields subs.now line) }
+    ensures fields { OnOk result (fields_of row.new ≡ fields_of row.old ++ line_fields line.now) }
     ensures whole { OnOk result (partial_of row.new ≡ []) }
 {
-    row.push_field(subs.name_of(line).as_bytes())?;
-    push_digits(row, subs.address_of(line))
+    row.push_field(line.name.as_str().as_bytes())?;
+    push_digits(row, &line.address)
 }
 
 /// Adds the name and the address of the called line, or two empty fields.
-fn push_called(row: &mut ByteRecord, subs: &Subs, called: Option<LineNo>) -> Result<(), AllocError>
+fn push_called(row: &mut ByteRecord, called: &Option<NamedLine>) -> Result<(), AllocError>
     requires begun { partial_of row.old ≡ [] }
-    requires line { IfSome called (λ line. line < line_count subs.now) }
-    ensures fields { OnOk result (fields_of row.new ≡ fields_of row.old ++ called_fields subs.now called) }
+    ensures fields { OnOk result (fields_of row.new ≡ fields_of row.old ++ called_fields called.now) }
     ensures whole { OnOk result (partial_of row.new ≡ []) }
 {
     match called {
-        Some(line) => push_line(row, subs, line),
+        Some(line) => push_line(row, line),
         None => {
             row.push_field(b"")?;
             row.push_field(b"")
@@ -156,7 +145,7 @@ fn push_digits(row: &mut ByteRecord, digits: &Digits) -> Result<(), AllocError>
 }
 
 /// The characters of the digits.
-fn characters_of(digits: &Digits) -> ArrayVec<u8, 15>
+pub fn characters_of(digits: &Digits) -> ArrayVec<u8, 15>
     ensures { result.items ≡ text_of digits.now }
 {
     let digits = digits.as_slice();
@@ -167,7 +156,8 @@ fn characters_of(digits: &Digits) -> ArrayVec<u8, 15>
     characters
 }
 
-fn name_of_payer(payer: End) -> &'static str
+/// The end that pays, as a word.
+pub fn name_of_payer(payer: End) -> &'static str
     ensures { result.now ≡ payer_text payer }
 {
     match payer {

@@ -15,6 +15,7 @@ mod flushing;
 mod giving;
 mod last_line;
 mod laws;
+mod line;
 mod moment;
 mod opening;
 mod progress;
@@ -25,10 +26,14 @@ mod torn;
 mod writer;
 
 pub use detail::{HEADER, write_detail, write_header};
-pub use ended::{EndedBy, EndedCall};
+pub use ended::{EndedBy, EndedCall, NamedLine};
 pub use file::{DetailFile, path_in};
 pub use flush_fault::FlushFault;
-pub use laws::{details_are_read_back, details_need_no_quotes, moment_is_what_a_clock_shows};
+pub use laws::{
+    details_are_read_back, details_need_no_quotes, lines_are_record_texts,
+    moment_is_what_a_clock_shows,
+};
+pub use line::write_record;
 pub use moment::read_moment;
 pub use opening::{OpenFault, Opened};
 pub use record_file::{Place, RecordFile};

@@ -1,8 +1,6 @@
 //! A writer of call detail records.
 
-ghost use Rattle.std.specs.Prelude.{◌≡◌, ◌≤◌, [], All, MatchResult, OnErr, OnOk, drop, length};
-ghost use Rattle.xp_charge.specs.Lines.{HasLines};
-ghost use Rattle.xp_subs.specs.Tables.{line_count};
+ghost use Rattle.std.specs.Prelude.{◌≡◌, ◌≤◌, [], MatchResult, OnErr, OnOk, drop, length};
 ghost use Rattle.xp_cdr.specs.Details.{detail_text};
 ghost use Rattle.xp_cdr.specs.Ledger.{Flushes, IsUnfinished, IsWhole, LacksLast, opening, with_failure, with_given};
 ghost use Rattle.xp_cdr.specs.Parts.{AreFiled};
@@ -19,7 +17,6 @@ use crate::run::ExchangeRun;
 use std::alloc::{AllocError, Global};
 use std::marker::Model;
 use xp_past::Past;
-use xp_subs::Subs;
 
 /// Writes the call detail records of an exchange to a file, or to files of which each is of a part of time. What is not on the disk
 /// yet waits in memory, and is offered again, so that each record is written once, in order, and none is lost. Where a sync has
@@ -36,12 +33,12 @@ pub struct DetailWriter<F: RecordFile> {
 
 impl<F: RecordFile> Model for DetailWriter<F> {
     ghost use Rattle.std.specs.Prelude.{[], ◌∷◌, drop};
-    ghost use Rattle.xp_cdr.specs.Ledger.{Ledger, first_tables};
+    ghost use Rattle.xp_cdr.specs.Ledger.{Ledger};
     ghost use Rattle.xp_cdr.specs.steps.Writer.{IsSent, told_text};
 
     ghost Value = { Ledger };
 
-    ghost view = { λ w. record { subs = first_tables w.giving.told_by.items; run = w.giving.run; given = w.giving.given.items; taken = F.taken w.file; synced = F.synced w.file; waiting = drop w.progress.octets w.batch.octets; failures = F.failures w.file } };
+    ghost view = { λ w. record { run = w.giving.run; given = w.giving.given.items; taken = F.taken w.file; synced = F.synced w.file; waiting = drop w.progress.octets w.batch.octets; failures = F.failures w.file } };
 
     ghost invariant = { λ w. IsSent F.part_of (told_text w.giving) w.giving.given.items (F.synced w.file) (F.taken w.file) (F.current w.file) w.batch w.progress };
 }
@@ -49,17 +46,16 @@ impl<F: RecordFile> Model for DetailWriter<F> {
 impl<F: RecordFile> DetailWriter<F> {
     /// Returns a writer to a file that has just been opened, of this run of an
     /// exchange.
-    pub fn new(alloc: Global, file: F, subs: &Subs, run: ExchangeRun) -> DetailWriter<F>
+    pub fn new(alloc: Global, file: F, run: ExchangeRun) -> DetailWriter<F>
         requires taken { F.taken file ≡ [] }
         requires synced { F.synced file ≡ [] }
         requires before { (F.current file).before ≡ [] }
         requires failures { F.failures file ≡ 0 }
-        ensures { result ≡ opening subs.now run }
+        ensures { result ≡ opening run }
     {
         let part = file.open_part();
         let giving = Giving {
             run,
-            told_by: Past::new().and(subs),
             given: Past::new(),
         };
         DetailWriter {
@@ -75,14 +71,11 @@ impl<F: RecordFile> DetailWriter<F> {
     /// # Errors
     ///
     /// Memory is wanting. Then nothing has changed, and the calls were not given.
-    pub fn give(&mut self, subs: &Subs, calls: &[EndedCall]) -> Result<(), AllocError>
-        requires subs { subs.now ≡ self.old.subs }
-        requires lines { All (λ call. HasLines (line_count subs.now) call.charging) calls.now }
+    pub fn give(&mut self, calls: &[EndedCall]) -> Result<(), AllocError>
         ensures ok { OnOk result (self.new ≡ with_given self.old calls.now) }
         ensures err { OnErr result (self.new ≡ self.old) }
     {
-        self.batch
-            .push_all(&self.file, subs, &self.giving.run, calls)?;
+        self.batch.push_all(&self.file, &self.giving.run, calls)?;
         self.giving.given.extend(calls);
         Ok(())
     }
@@ -176,7 +169,7 @@ impl<F: RecordFile> DetailWriter<F> {
         ensures taken { F.taken result.now ≡ self.now.taken }
         ensures synced { F.synced result.now ≡ self.now.synced }
         ensures failures { F.failures result.now ≡ self.now.failures }
-        ensures filed { AreFiled F.part_of (detail_text self.now.subs self.now.run) self.now.given (F.current result.now) self.now.taken }
+        ensures filed { AreFiled F.part_of (detail_text self.now.run) self.now.given (F.current result.now) self.now.taken }
     {
         &self.file
     }

@@ -35,9 +35,7 @@ pub static DETAILS_OF_DAYS: [&str; 4] = [
 pub const THE_26TH: u64 = 20_783;
 
 /// The call of this number, so many days later.
-pub fn call_later(subs: &Subs, number: u64, days: u64) -> Option<EndedCall>
-    ensures { IfSome result (λ call. HasLines (line_count subs.now) call.charging) }
-{
+pub fn call_later(subs: &Subs, number: u64, days: u64) -> Option<EndedCall> {
     let mut call = call(subs, number)?;
     let later = days.saturating_mul(86_400);
     let charging = &mut call.charging;
@@ -49,13 +47,19 @@ pub fn call_later(subs: &Subs, number: u64, days: u64) -> Option<EndedCall>
     Some(call)
 }
 
-/// A call from a1 to b1, connected after two seconds and for a minute.
-pub fn call(subs: &Subs, number: u64) -> Option<EndedCall>
-    ensures { IfSome result (λ call. HasLines (line_count subs.now) call.charging) }
+/// A call from a1 to b1, connected after two seconds and for a minute, with its lines as these subscriptions name them.
+pub fn call(subs: &Subs, number: u64) -> Option<EndedCall> {
+    let charging = record(subs, number)?;
+    Some(EndedCall::of(subs, &charging, EndedBy::Call))
+}
+
+/// The charging record of that call.
+fn record(subs: &Subs, number: u64) -> Option<Record>
+    ensures { IfSome result (HasLines (line_count subs.now)) }
 {
     let caller = subs.line_named("a1")?;
     let called = subs.line_named("b1")?;
-    let charging = Record {
+    Some(Record {
         number,
         caller,
         called: Some(called),
@@ -68,10 +72,6 @@ pub fn call(subs: &Subs, number: u64) -> Option<EndedCall>
         requested: 1_795_695_300,
         connected: Some(1_795_695_302),
         ended: 1_795_695_362,
-    };
-    Some(EndedCall {
-        charging,
-        ended_by: EndedBy::Call,
     })
 }
 

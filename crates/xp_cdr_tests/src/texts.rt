@@ -1,13 +1,9 @@
 //! The text of call detail records.
 
-ghost use Rattle.std.specs.Prelude.{◌≡◌, IfSome};
-ghost use Rattle.xp_charge.specs.Lines.{HasLines};
-ghost use Rattle.xp_subs.specs.Tables.{line_count};
-
 use crate::calls::{DETAILS, STARTED, call, run_at};
 use std::alloc::Global;
 use std::test::Fail;
-use xp_cdr::{EndedBy, EndedCall, ExchangeName, write_detail};
+use xp_cdr::{EndedBy, EndedCall, ExchangeName, write_detail, write_record};
 use xp_packets::End;
 use xp_subs::Subs;
 use xp_testing::{Refusing, THREE_STATIONS};
@@ -31,7 +27,7 @@ fn begin_with_moments(alloc: Global, subs: &Subs) -> Result<bool, Fail> {
     let mut text = Vec::new(alloc);
     for (moment, wanted) in &MOMENTS {
         text.clear();
-        write_detail(alloc, subs, &run_at(*moment), &ended, &mut text)?;
+        write_detail(alloc, &run_at(*moment), &ended, &mut text)?;
         if !text.as_slice().starts_with(wanted.as_bytes()) {
             return Ok(false);
         }
@@ -49,9 +45,7 @@ fn moments(rt: HostRuntime) -> Result<(), Fail> {
 }
 
 /// A call over midnight with the greatest of each number, whose clock goes back.
-fn greatest(subs: &Subs) -> Option<EndedCall>
-    ensures { IfSome result (λ call. HasLines (line_count subs.now) call.charging) }
-{
+fn greatest(subs: &Subs) -> Option<EndedCall> {
     let mut call = call(subs, 18_446_744_073_709_551_615)?;
     call.ended_by = EndedBy::Partial;
     let ended = &mut call.charging;
@@ -73,7 +67,7 @@ const GREATEST: &str =
 fn greatest_detail(alloc: Global, subs: &Subs) -> Result<Vec<u8>, Fail> {
     let ended = greatest(subs).ok_or("no call")?;
     let mut text = Vec::new(alloc);
-    write_detail(alloc, subs, &run_at(STARTED), &ended, &mut text)?;
+    write_detail(alloc, &run_at(STARTED), &ended, &mut text)?;
     Ok(text)
 }
 
@@ -93,9 +87,9 @@ fn write_behind(alloc: Global, subs: &Subs) -> Result<(usize, usize, bool), Fail
     let refusing = Refusing::new(alloc, 2);
     let mut text = Vec::new(&refusing);
     text.push(b'#')?;
-    let is_refused = write_detail(alloc, subs, &run_at(STARTED), &ended, &mut text).is_err();
+    let is_refused = write_detail(alloc, &run_at(STARTED), &ended, &mut text).is_err();
     let first = text.len();
-    write_detail(alloc, subs, &run_at(STARTED), &ended, &mut text)?;
+    write_detail(alloc, &run_at(STARTED), &ended, &mut text)?;
     Ok((
         first,
         text.len(),
@@ -110,6 +104,43 @@ fn no_memory_for_a_text(rt: HostRuntime) -> Result<(), Fail> {
     let written = write_behind(rt.alloc(), &subs);
     drop(subs);
     assert_eq!(rt; written?, (1, DETAILS[0].len() + 1, true));
+    Ok(())
+}
+
+/// The same call once more, behind a new address of b1.
+const MOVED: &str =
+    "2026-11-26T12:00:00Z,2,a1,2080010,b1,2080029,2080020,caller,3,2,2026-11-26T12:15:00Z,2026-11-26T12:15:02Z,2026-11-26T12:16:02Z,60,00,0,x-1.net,call\n";
+
+/// The lines of both, as they are printed.
+const PRINTED: &str =
+    "record 1 a1 b1 2080020 caller 3 2 00 0 60\nrecord 2 a1 b1 2080020 caller 3 2 00 0 60\n";
+
+/// The call detail records of a call that ended by these subscriptions and of one that ended by the others, and their lines as they are
+/// printed.
+fn told_in_turn(alloc: Global, subs: &Subs, others: &Subs) -> Result<(Vec<u8>, Vec<u8>), Fail> {
+    let first = call(subs, 1).ok_or("no call")?;
+    let second = call(others, 2).ok_or("no call")?;
+    let (mut details, mut printed) = (Vec::new(alloc), Vec::new(alloc));
+    for ended in [&first, &second] {
+        write_detail(alloc, &run_at(STARTED), ended, &mut details)?;
+        write_record(ended, &mut printed)?;
+    }
+    Ok((details, printed))
+}
+
+/// A call is told by the subscriptions by which its lines were named as it ended.
+#[test]
+fn named_as_they_ended(rt: HostRuntime) -> Result<(), Fail> {
+    let others = THREE_STATIONS.replace(rt.alloc(), "2080020", "2080029")?;
+    let subs = Subs::read(rt.alloc(), THREE_STATIONS)?;
+    let others = Subs::read(rt.alloc(), &others)?;
+    let told = told_in_turn(rt.alloc(), &subs, &others);
+    drop(subs);
+    drop(others);
+    let (details, printed) = told?;
+    assert!(rt; details.as_slice().starts_with(DETAILS[0].as_bytes()));
+    assert!(rt; details.as_slice().ends_with(MOVED.as_bytes()));
+    assert_eq!(rt; printed.as_slice(), PRINTED.as_bytes());
     Ok(())
 }
 

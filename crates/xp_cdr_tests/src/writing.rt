@@ -1,6 +1,6 @@
 //! Writing to a file that fails.
 
-ghost use Rattle.std.specs.Prelude.{◌≡◌, ◌<◌, OnOk};
+ghost use Rattle.std.specs.Prelude.{◌<◌};
 
 use crate::calls::{DETAILS, DETAILS_OF_DAYS, LATER, STARTED, THE_26TH, call_later, run_at};
 use crate::failing::{Failing, FailingFile};
@@ -74,13 +74,10 @@ fn assert_days<R: Abort>(rt: &R, writer: &DetailWriter<FailingFile>, scene: &Sce
 }
 
 /// Gives the writer the call of this number.
-fn give(writer: &mut DetailWriter<FailingFile>, scene: &Scene, number: usize) -> Result<(), Fail>
-    requires { scene.now.subs ≡ writer.old.subs }
-    ensures { OnOk result (writer.new.subs ≡ writer.old.subs) }
-{
+fn give(writer: &mut DetailWriter<FailingFile>, scene: &Scene, number: usize) -> Result<(), Fail> {
     let later = scene.later.get(number.saturating_sub(1)).copied();
     let ended = call_later(&scene.subs, number as u64, later.unwrap_or(0)).ok_or("no call")?;
-    writer.give(&scene.subs, &[ended])?;
+    writer.give(&[ended])?;
     Ok(())
 }
 
@@ -90,9 +87,7 @@ fn write_all<R: Abort>(
     rt: &R,
     scene: &Scene,
     writer: &mut DetailWriter<FailingFile>,
-) -> Result<u64, Fail>
-    requires { scene.now.subs ≡ writer.old.subs }
-{
+) -> Result<u64, Fail> {
     let mut failures = 0u64;
     for turn in 1..=8usize {
         let given = turn.min(DETAILS.len());
@@ -119,7 +114,7 @@ fn count_calls<R: Abort>(
     requires { 0 < most }
 {
     let file = FailingFile::new(alloc, most, failing);
-    let mut writer = DetailWriter::new(alloc, file, &scene.subs, run_at(STARTED));
+    let mut writer = DetailWriter::new(alloc, file, run_at(STARTED));
     let failures = write_all(rt, scene, &mut writer)?;
     let calls = writer.file().calls();
     let reached = calls.saturating_add(1).saturating_sub(failing.from);
@@ -206,7 +201,7 @@ fn begin_by_clock(
         leaves: 0,
     };
     let file = FailingFile::new(alloc, 4_096, failing);
-    let mut writer = DetailWriter::new(alloc, file, &scene.subs, run_at(STARTED));
+    let mut writer = DetailWriter::new(alloc, file, run_at(STARTED));
     give(&mut writer, scene, 1)?;
     let waiting = writer.begin(THE_26TH + 1).ok();
     let _flushed = writer.flush();
@@ -236,7 +231,7 @@ fn begin_between(alloc: Global, scene: &Scene, from: u64) -> Result<[u64; 3], Fa
         leaves: 0,
     };
     let file = FailingFile::new(alloc, 100, failing);
-    let mut writer = DetailWriter::new(alloc, file, &scene.subs, run_at(STARTED));
+    let mut writer = DetailWriter::new(alloc, file, run_at(STARTED));
     give(&mut writer, scene, 1)?;
     let _first = writer.follow();
     let first = writer.file().begun();
@@ -270,7 +265,7 @@ fn write_twice(alloc: Global, scene: &Scene, from: u64) -> Result<[u64; 4], Fail
         leaves: 0,
     };
     let file = FailingFile::new(alloc, 4_096, failing);
-    let mut writer = DetailWriter::new(alloc, file, &scene.subs, run_at(STARTED));
+    let mut writer = DetailWriter::new(alloc, file, run_at(STARTED));
     give(&mut writer, scene, 1)?;
     give(&mut writer, scene, 2)?;
     let before = writer.file().calls();

@@ -25,7 +25,7 @@ pub fn check_file<R: AllocGlobal + Print>(
 fn count_set_up<R: AllocGlobal + Print>(rt: &R, subs: Subs) -> Result<(), CommandFailure> {
     let alloc = rt.alloc();
     let mut writer = WatchedWriter::buffered(alloc, io::writer(rt))?;
-    match perform(alloc, Task::Check, subs, io::empty(), &mut writer) {
+    match perform(alloc, Task::Check, subs, &[], io::empty(), &mut writer) {
         Ok(()) => Ok(()),
         Err(failure) => Err(writer.get_ref().explained(alloc, failure, STANDARD_OUTPUT)),
     }

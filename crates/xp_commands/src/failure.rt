@@ -33,6 +33,9 @@ pub enum CommandFailure {
     /// what a file or standard output told.
     #[error("{0}\n{1}")]
     Explained(TaskFailure, String),
+    /// Subscriptions that a line of the script names cannot come into force, and why.
+    #[error("{0}: {1}")]
+    Refused(TaskFailure, String),
     /// Nobody reads standard output any more. Nothing is told of it.
     #[error("xp: output")]
     Unread,
@@ -42,34 +45,46 @@ pub enum CommandFailure {
     /// The console of a serving exchange has not done what it was asked.
     #[error("xp: console: {0}")]
     Ask(AskFault),
+    /// An exchange has not taken its subscription file anew, which this says in words.
+    #[error("{0}")]
+    Reload(String),
+    /// A subscription file cannot come into force after another one without a stop, as was printed. Nothing more is told of it.
+    #[error("xp: needs a stop")]
+    NeedsStop,
 }
 
 impl CommandFailure {
-    /// The exit status: 1 for a call request that is refused, 2 for what was asked, 5 for output that nobody reads and for a console, else
-    /// that of the task.
+    /// The exit status: 1 for a call request that is refused, 2 for what was asked, 3 for a subscription file that is not taken or needs
+    /// a stop, 5 for output that nobody reads and for a console, else that of the task.
     pub fn status(&self) -> u8
         ensures { result ≡ status_of self.now }
     {
         match self {
             CommandFailure::CallRefused => 1,
             CommandFailure::Arguments(_) | CommandFailure::Question(_, _) => 2,
-            CommandFailure::Task(failure) | CommandFailure::Explained(failure, _) =>
-                failure.status(),
+            CommandFailure::Reload(_) | CommandFailure::NeedsStop => 3,
+            CommandFailure::Task(failure)
+            | CommandFailure::Explained(failure, _)
+            | CommandFailure::Refused(failure, _) => failure.status(),
             CommandFailure::Unread | CommandFailure::Address(_) | CommandFailure::Ask(_) => 5,
         }
     }
 
-    /// Prints it on standard error, except that nobody reads standard output, and that a call request is refused.
+    /// Prints it on standard error, except that nobody reads standard output, that a call request is refused, and that a stop is needed.
     pub fn tell(&self, rt: &impl Eprint) -> io::Result<()> {
         match self {
             // clap ends the last line itself.
             CommandFailure::Arguments(told) => rt.eprint(told),
-            CommandFailure::Unread | CommandFailure::CallRefused => Ok(()),
+            CommandFailure::Unread | CommandFailure::CallRefused | CommandFailure::NeedsStop => Ok(
+                (),
+            ),
             CommandFailure::Task(failure) => rt.eprintln(failure),
             CommandFailure::Question(_, _)
             | CommandFailure::Explained(_, _)
+            | CommandFailure::Refused(_, _)
             | CommandFailure::Address(_)
-            | CommandFailure::Ask(_) => rt.eprintln(self),
+            | CommandFailure::Ask(_)
+            | CommandFailure::Reload(_) => rt.eprintln(self),
         }
     }
 }

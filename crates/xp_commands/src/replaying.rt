@@ -3,28 +3,36 @@
 use crate::failure::CommandFailure;
 use crate::output::{STANDARD_OUTPUT, WatchedWriter, with_reason};
 use crate::subscribing::subscriptions_of;
-use std::alloc::{AllocGlobal, Global};
+use std::alloc::{AllocError, AllocGlobal, Global};
 use std::fs::{File, Files};
 use std::io::{BufReader, ErrorKind, Read, Write};
 use std::{fs, io};
-use xp_arguments::ReplayForm;
+use xp_arguments::{NamedPath, ReplayForm, ReplayOrder};
 use xp_exchange::ReplayFault;
-use xp_script_places::{KeptLines, wanted_at};
+use xp_script::NamedTables;
+use xp_script_places::{KeptLines, refused_tables, wanted_at};
 use xp_subs::Subs;
 use xp_tasks::{Task, TaskFailure, perform, subscriptions};
 use xp_transcript::{Form, tell};
 
-/// Replays a script from standard input over the subscription file of this name, and tells what comes of it.
+/// Replays a script from standard input over the subscription file of this name, and tells what comes of it. Lines of the script may
+/// bring the subscriptions of other files into force.
 pub fn replay_script<R: AllocGlobal + Files<File = File> + Input + Print>(
     rt: &R,
-    form: ReplayForm<'_>,
+    order: &ReplayOrder<'_>,
     file: &str,
 ) -> Result<(), CommandFailure> {
     let alloc = rt.alloc();
     let text = fs::read_to_string(rt, file);
+    let texts = named_texts(rt, &order.tables)?;
+    let named = named_tables(alloc, &order.tables, &texts)?;
     let subs = subscriptions_of(rt, file, &text)?;
-    let told = match form {
-        ReplayForm::Digits => return play_script(rt, &text, subs),
+    let order_of_play = Play {
+        file: &text,
+        named: &named,
+    };
+    let told = match order.form {
+        ReplayForm::Digits => return play_script(rt, order_of_play, subs),
         ReplayForm::Words => Told::printed(Form::Words),
         ReplayForm::Ladder => Told::printed(Form::Ladder),
         ReplayForm::Capture(path) => {
@@ -33,7 +41,7 @@ pub fn replay_script<R: AllocGlobal + Files<File = File> + Input + Print>(
                 name: path,
             };
             return match File::create(rt, path) {
-                Ok(capture) => tell_script(rt, told, &text, subs, capture),
+                Ok(capture) => tell_script(rt, told, order_of_play, subs, capture),
                 Err(error) => Err(with_reason(
                     TaskFailure::Output,
                     format!(in alloc; "{path}: {error}"),
@@ -41,7 +49,64 @@ pub fn replay_script<R: AllocGlobal + Files<File = File> + Input + Print>(
             };
         }
     };
-    tell_script(rt, told, &text, subs, io::writer(rt))
+    tell_script(rt, told, order_of_play, subs, io::writer(rt))
+}
+
+/// The texts of these files of subscriptions, in order.
+///
+/// # Errors
+///
+/// Those of `subscriptions_of`, for the first of them that sets up nothing.
+fn named_texts<R: AllocGlobal + Files<File = File>>(
+    rt: &R,
+    tables: &[NamedPath<'_>],
+) -> Result<Vec<String>, CommandFailure> {
+    let mut texts = Vec::new(rt.alloc());
+    for named in tables {
+        let text = checked_text(rt, named.path)?;
+        if texts.push(text).is_err() {
+            return Err(CommandFailure::Task(TaskFailure::Memory));
+        }
+    }
+    Ok(texts)
+}
+
+/// The text of a file that sets up subscriptions.
+fn checked_text<R: AllocGlobal + Files<File = File>>(
+    rt: &R,
+    path: &str,
+) -> Result<String, CommandFailure> {
+    let text = fs::read_to_string(rt, path);
+    let _subs = subscriptions_of(rt, path, &text)?;
+    match text {
+        Ok(text) => Ok(text),
+        Err(_) => Err(CommandFailure::Task(TaskFailure::File)),
+    }
+}
+
+/// These texts of subscriptions with their names.
+fn named_tables<'a>(
+    alloc: Global,
+    tables: &'a [NamedPath<'a>],
+    texts: &'a [String],
+) -> Result<Vec<NamedTables<'a>>, CommandFailure> {
+    let mut named = Vec::new(alloc);
+    for (tables, text) in tables.iter().zip(texts) {
+        let tables = NamedTables::new(alloc, tables.name, text).map_err(TaskFailure::from)?;
+        if named.push(tables).is_err() {
+            return Err(CommandFailure::Task(TaskFailure::Memory));
+        }
+    }
+    Ok(named)
+}
+
+/// What a script is played over.
+#[derive(Clone, Copy)]
+struct Play<'a, 'n> {
+    /// The text of the subscription file.
+    file: &'a io::Result<String>,
+    /// The subscriptions that lines may bring into force.
+    named: &'a [NamedTables<'n>],
 }
 
 /// How a history is told, and what it is written on.
@@ -62,46 +127,59 @@ impl Told<'_> {
     }
 }
 
-/// Replays a script from standard input, and prints the frames that the exchange puts out and its records. `file` is the text of
-/// the subscription file.
+/// Replays a script from standard input, and prints the frames that the exchange puts out and its records.
 fn play_script<R: AllocGlobal + Input + Print>(
     rt: &R,
-    file: &io::Result<String>,
+    play: Play<'_, '_>,
     subs: Subs,
 ) -> Result<(), CommandFailure> {
     let alloc = rt.alloc();
     let reader = BufReader::new(alloc, rt.reader()).map_err(|_| TaskFailure::Memory)?;
     let mut lines = KeptLines::new(alloc, reader);
     let mut writer = WatchedWriter::buffered(alloc, io::writer(rt))?;
-    match perform(alloc, Task::Replay, subs, &mut lines, &mut writer) {
+    match perform(
+        alloc,
+        Task::Replay,
+        subs,
+        play.named,
+        &mut lines,
+        &mut writer,
+    ) {
         Ok(()) => Ok(()),
         Err(failure) => Err(
             match writer.get_ref().explained(alloc, failure, STANDARD_OUTPUT) {
-                CommandFailure::Task(failure) => with_wanted(alloc, failure, file, lines.octets()),
+                CommandFailure::Task(failure) => with_wanted(alloc, failure, play, lines.octets()),
                 explained => explained,
             },
         ),
     }
 }
 
-/// Replays a script from standard input, and tells its history so. `file` is the text of the subscription file.
+/// Replays a script from standard input, and tells its history so.
 fn tell_script<R: AllocGlobal + Input, W: Write + Drop>(
     rt: &R,
     told: Told<'_>,
-    file: &io::Result<String>,
+    play: Play<'_, '_>,
     subs: Subs,
     writer: W,
 ) -> Result<(), CommandFailure> {
     let alloc = rt.alloc();
     let script = whole_script(rt)?;
     let mut writer = WatchedWriter::buffered(alloc, writer)?;
-    match tell(alloc, told.form, subs, script.as_slice(), &mut writer) {
+    match tell(
+        alloc,
+        told.form,
+        subs,
+        play.named,
+        script.as_slice(),
+        &mut writer,
+    ) {
         Ok(()) => Ok(()),
         Err(fault) => {
             let failure = TaskFailure::Replay(fault);
             Err(
                 match writer.get_ref().explained(alloc, failure, told.name) {
-                    CommandFailure::Task(failure) => with_wanted(alloc, failure, file, &script),
+                    CommandFailure::Task(failure) => with_wanted(alloc, failure, play, &script),
                     explained => explained,
                 },
             )
@@ -120,18 +198,33 @@ fn whole_script<R: AllocGlobal + Input>(rt: &R) -> Result<Vec<u8>, TaskFailure> 
 }
 
 /// This failure of a replay. Where the script has a faulty line it is the first among these lines, and what was wanted there is told
-/// with it.
+/// with it. Where subscriptions that a line names cannot come into force it is told why.
 fn with_wanted(
     alloc: Global,
     failure: TaskFailure,
-    file: &io::Result<String>,
+    play: Play<'_, '_>,
     lines: &[u8],
 ) -> CommandFailure {
-    let TaskFailure::Replay(ReplayFault::Script(_)) = failure else {
+    let TaskFailure::Replay(fault) = failure else {
         return CommandFailure::Task(failure);
     };
-    match subscriptions(alloc, file) {
-        Ok(subs) => with_reason(failure, wanted_at(alloc, &subs, lines)),
+    let Ok(subs) = subscriptions(alloc, play.file) else {
+        return CommandFailure::Task(failure);
+    };
+    match fault {
+        ReplayFault::Script(_) => with_reason(failure, wanted_at(alloc, &subs, play.named, lines)),
+        ReplayFault::Reload(_, number, why) => match play.named.get(number) {
+            Some(named) => refused(failure, refused_tables(alloc, &subs, named, why)),
+            None => CommandFailure::Task(failure),
+        },
+        _ => CommandFailure::Task(failure),
+    }
+}
+
+/// This failure of a replay, with why subscriptions cannot come into force if there was memory for the text of that.
+fn refused(failure: TaskFailure, reason: Result<String, AllocError>) -> CommandFailure {
+    match reason {
+        Ok(reason) => CommandFailure::Refused(failure, reason),
         Err(_) => CommandFailure::Task(failure),
     }
 }

@@ -42,4 +42,4 @@ station_has_no_float station = refl
 
 pub status_has_no_float : (status : ExchangeStatus) → has_float (status_data status) ≡ false
 status_has_no_float status =
-    rw (items_have_no_float live_data live_has_no_float status.calls.items, items_have_no_float line_data line_has_no_float status.lines.items, items_have_no_float ended_data ended_has_no_float status.recent.items, items_have_no_float station_data station_has_no_float status.stations.items) refl
+    rw (items_have_no_float live_data live_has_no_float status.calls.items, items_have_no_float line_data line_has_no_float status.lines.items, items_have_no_float ended_data ended_has_no_float status.recent.items, items_have_no_float station_data station_has_no_float status.stations.items, optional_has_no_float status.reloads.last) refl

@@ -12,6 +12,7 @@ use Rattle.xp_console.specs.declared.status.ExchangeStatus.{ExchangeStatus}
 use Rattle.xp_console.specs.declared.status.LineStatus.{LineStatus}
 use Rattle.xp_console.specs.declared.status.LiveCall.{LiveCall}
 use Rattle.xp_console.specs.declared.status.Party.{Party}
+use Rattle.xp_console.specs.declared.status.ReloadCounts.{ReloadCounts}
 use Rattle.xp_console.specs.declared.status.StationCalls.{StationCalls}
 use Rattle.xp_console.specs.declared.status.Totals.{Totals}
 
@@ -106,6 +107,13 @@ refused_data refused =
     (member (codes "count") (count_data refused.1)
     (member (codes "words") (string (cause_text refused.0)) no_members)))
 
+-- how often the subscription file was read again, with the moment of the last time that what it has came into force
+abbrev pub reloads_data : ReloadCounts → Data
+reloads_data reloads =
+    object (member (codes "done") (count_data reloads.done)
+    (member (codes "last") (optional_data reloads.last)
+    (member (codes "refused") (count_data reloads.refused) no_members)))
+
 -- the totals
 abbrev pub totals_data : Totals → Data
 totals_data totals =
@@ -142,9 +150,10 @@ status_data status =
     (member (codes "lines") (lines_data status.lines.items)
     (member (codes "moment") (count_data status.moment)
     (member (codes "recent") (recent_data status.recent.items)
+    (member (codes "reloads") (reloads_data status.reloads)
     (member (codes "started") (count_data status.started)
     (member (codes "stations") (stations_data status.stations.items)
-    (member (codes "totals") (totals_data status.totals) no_members)))))))
+    (member (codes "totals") (totals_data status.totals) no_members))))))))
 
 -- its text, with no space
 unfoldable pub json_text : ExchangeStatus → List ℕ

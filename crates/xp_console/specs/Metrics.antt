@@ -8,6 +8,7 @@ use Rattle.xp_console.specs.declared.status.LineStatus.{LineStatus}
 use Rattle.xp_console.specs.declared.status.LiveCall.{LiveCall}
 use Rattle.xp_console.specs.declared.status.LineState.{LineState}
 use Rattle.xp_console.specs.declared.status.LineState.TheVariants.{OutOfService, Ready, DteWaiting, DceWaiting, DataTransfer, DceClearIndication}
+use Rattle.xp_console.specs.declared.status.ReloadCounts.{ReloadCounts}
 use Rattle.xp_console.specs.declared.status.StationCalls.{StationCalls}
 use Rattle.xp_console.specs.declared.status.Totals.{Totals}
 
@@ -148,9 +149,20 @@ records_text totals =
     single_text (codes "gonukire_records_waiting") (codes "gauge") (codes "Records of ended calls that are not written yet.") totals.records_waiting
     ++ single_text (codes "gonukire_partial_records") (codes "gauge") (codes "Calls of the run before that got a partial record.") totals.partial_records
 
+-- reloads, by what became of them
+unfoldable pub results_text : ReloadCounts → List ℕ
+results_text reloads =
+    labelled_text (codes "gonukire_reloads_total") (codes "result") (codes "done") reloads.done
+    ++ labelled_text (codes "gonukire_reloads_total") (codes "result") (codes "refused") reloads.refused
+
+unfoldable pub reloads_text : ReloadCounts → List ℕ
+reloads_text reloads =
+    head_text (codes "gonukire_reloads_total") (codes "counter") (codes "Reloads of the subscription file, by what became of them.")
+    ++ results_text reloads
+
 -- all metrics
 unfoldable pub metrics_text : ExchangeStatus → List ℕ
 metrics_text status =
     lines_text status.lines.items ++ calls_text status ++ refused_text status.totals
     ++ failures_text status.totals ++ stations_text status.stations.items ++ segments_text status.totals ++ octets_text status.totals ++ events_text status.totals
-    ++ records_text status.totals
+    ++ records_text status.totals ++ reloads_text status.reloads

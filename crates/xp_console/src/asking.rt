@@ -1,9 +1,10 @@
-//! Asking a console, as `xp status` and `xp stop` do.
+//! Asking a console, as `xp status`, `xp stop` and `xp reload` do.
 
 ghost use Rattle.std.specs.Prelude.{◌≡◌};
 ghost use Rattle.std.specs.Io.{ReadsAtMost};
 ghost use Rattle.xp_console.specs.declared.asking.AskFault.TheVariants.{Memory as OutOfMemory};
 
+use crate::reload::ReloadAnswer;
 use crate::reply::{Reply, reply_in};
 use std::alloc::{AllocError, Global};
 use std::io;
@@ -14,6 +15,9 @@ use thiserror::Error;
 
 /// How long a console has for its reply, in seconds.
 const PATIENCE: u64 = 5;
+
+/// How long it has for its reply to a reload, in seconds. The console itself waits 10 seconds at most.
+const RELOAD_PATIENCE: u64 = 15;
 
 /// How many octets a reply has at most.
 const LONGEST: usize = 1_048_576;
@@ -27,7 +31,7 @@ pub enum AskFault {
     /// Nothing listens at the address, or the connection broke.
     #[error("no console answers there")]
     Unreachable,
-    /// No whole reply came within 5 seconds.
+    /// No whole reply came within 5 seconds, or to a reload within 15.
     #[error("the console is too slow")]
     Slow,
     /// The reply is no response of HTTP, or is longer than 1 MiB.
@@ -61,7 +65,7 @@ pub fn ask_status<R: Net<Stream = TcpStream> + Clock>(
     let request = format!(in alloc;
         "GET /status.txt HTTP/1.1\r\nhost: {address}\r\nconnection: close\r\n\r\n"
     )?;
-    let reply = ask(rt, alloc, address, request.as_bytes())?;
+    let reply = ask(rt, alloc, address, request.as_bytes(), PATIENCE)?;
     match String::from_utf8(reply.body) {
         Ok(text) if reply.status == 200 => Ok(text),
         Ok(_) => Err(AskFault::Refused(reply.status)),
@@ -82,21 +86,53 @@ pub fn ask_stop<R: Net<Stream = TcpStream> + Clock>(
     let request = format!(in alloc;
         "POST /stop HTTP/1.1\r\nhost: {address}\r\nconnection: close\r\ncontent-length: 0\r\nx-gonukire: stop\r\n\r\n"
     )?;
-    let reply = ask(rt, alloc, address, request.as_bytes())?;
+    let reply = ask(rt, alloc, address, request.as_bytes(), PATIENCE)?;
     match reply.status {
         202 => Ok(()),
         status => Err(AskFault::Refused(status)),
     }
 }
 
-/// The reply to a request.
+/// Asks the exchange that has its console at an address to read its subscription file again, and waits for what becomes of that. The
+/// texts are without the line feed at their end. `Busy` is also where the console lacked memory for its reply.
+///
+/// # Errors
+///
+/// As [`AskFault`] says. After `Slow`, `Unreachable` and `Unreadable` what the file has may be in force.
+pub fn ask_reload<R: Net<Stream = TcpStream> + Clock>(
+    rt: &R,
+    alloc: Global,
+    address: SocketAddr,
+) -> Result<ReloadAnswer, AskFault> {
+    let request = format!(in alloc;
+        "POST /reload HTTP/1.1\r\nhost: {address}\r\nconnection: close\r\ncontent-length: 0\r\nx-gonukire: reload\r\n\r\n"
+    )?;
+    let reply = ask(rt, alloc, address, request.as_bytes(), RELOAD_PATIENCE)?;
+    match reply.status {
+        200 => Ok(ReloadAnswer::Done(line_in(reply.body)?)),
+        409 => Ok(ReloadAnswer::Refused(line_in(reply.body)?)),
+        503 => Ok(ReloadAnswer::Busy),
+        status => Err(AskFault::Refused(status)),
+    }
+}
+
+/// The text of a body, without the line feed at its end.
+fn line_in(mut body: Vec<u8>) -> Result<String, AskFault> {
+    if body.last() == Some(&b'\n') {
+        body.pop();
+    }
+    String::from_utf8(body).map_err(|_| AskFault::Unreadable)
+}
+
+/// The reply to a request, which has to come within so many seconds.
 fn ask<R: Net<Stream = TcpStream> + Clock>(
     rt: &R,
     alloc: Global,
     address: SocketAddr,
     request: &[u8],
+    patience: u64,
 ) -> Result<Reply, AskFault> {
-    let ends = uptime(rt)?.saturating_add(Duration::from_secs(PATIENCE));
+    let ends = uptime(rt)?.saturating_add(Duration::from_secs(patience));
     let most = Duration::from_secs(PATIENCE);
     let Ok(mut stream) = TcpStream::connect_timeout(rt, &address, most) else {
         return Err(AskFault::Unreachable);

@@ -3,10 +3,12 @@
 ghost use Rattle.std.specs.Prelude.{◌≡◌, IfOk, map, string_bytes};
 ghost use Rattle.serde_json.specs.Data.{array};
 ghost use Rattle.serde_json.specs.View.{items_of, view};
-ghost use Rattle.xp_console.specs.Json.{calls_data, cleared_data, ended_data, json_text, line_data, lines_data, live_data, optional_data, optional_party_data, party_data, peer_data, recent_data, refused_data, segments_data, station_data, stations_data, status_data, totals_data};
+ghost use Rattle.xp_console.specs.Json.{calls_data, cleared_data, ended_data, json_text, line_data, lines_data, live_data, optional_data, optional_party_data, party_data, peer_data, recent_data, refused_data, reloads_data, segments_data, station_data, stations_data, status_data, totals_data};
 
 use crate::object::Object;
-use crate::status::{EndedCall, ExchangeStatus, LineStatus, LiveCall, Party, StationCalls, Totals};
+use crate::status::{
+    EndedCall, ExchangeStatus, LineStatus, LiveCall, Party, ReloadCounts, StationCalls, Totals,
+};
 use crate::words::{cause_text, payer_text, state_text};
 use serde_json::Value;
 use std::alloc::{AllocError, Global};
@@ -28,6 +30,7 @@ fn status_value(alloc: Global, status: &ExchangeStatus) -> Result<Value, AllocEr
         .with("lines", lines_value(alloc, &status.lines))
         .with_count("moment", status.moment)
         .with("recent", recent_value(alloc, &status.recent))
+        .with("reloads", reloads_value(alloc, status.reloads))
         .with_count("started", status.started)
         .with("stations", stations_value(alloc, &status.stations))
         .with("totals", totals_value(alloc, &status.totals))
@@ -138,6 +141,16 @@ fn station_value(alloc: Global, station: &StationCalls) -> Result<Value, AllocEr
         .with_count("from", station.from)
         .with_count("refused", station.refused)
         .with_count("to", station.to)
+        .value()
+}
+
+fn reloads_value(alloc: Global, reloads: ReloadCounts) -> Result<Value, AllocError>
+    ensures { IfOk result (λ value. view value ≡ reloads_data reloads) }
+{
+    Object::new(alloc)
+        .with_count("done", reloads.done)
+        .with("last", Ok(optional_value(reloads.last)))
+        .with_count("refused", reloads.refused)
         .value()
 }
 

@@ -13,6 +13,7 @@ mod metrics;
 mod object;
 mod page;
 mod refused;
+mod reload;
 mod reply;
 mod requests;
 mod responses;
@@ -22,13 +23,15 @@ mod status;
 mod table;
 mod words;
 
-pub use asking::{AskFault, ask_status, ask_stop};
+pub use asking::{AskFault, ask_reload, ask_status, ask_stop};
 pub use client_stream::ClientStream;
 pub use clients::{Clients, LONGEST, MOST_CLIENTS};
 pub use console::{Console, ConsoleFault};
 pub use refused::RefusedCalls;
+pub use reload::ReloadAnswer;
 pub use requests::{Answer, Format, Resource, answer_to};
 pub use service::{ConsoleService, StatusSource};
 pub use status::{
-    EndedCall, ExchangeStatus, LineState, LineStatus, LiveCall, Party, Payer, StationCalls, Totals,
+    EndedCall, ExchangeStatus, LineState, LineStatus, LiveCall, Party, Payer, ReloadCounts,
+    StationCalls, Totals,
 };

@@ -1,11 +1,11 @@
 //! The counts in Prometheus' text format.
 
 ghost use Rattle.std.specs.Prelude.{◌≡◌, ◌++◌, decimal, flat_map, IfOk, OnOk, string_bytes};
-ghost use Rattle.xp_console.specs.Metrics.{calls_text, count_in, directions_text, events_text, failures_text, head_text, is_same_state, labelled_text, lines_text, live_text, metrics_text, octets_text, records_text, cause_sample, causes_text, refused_text, sample_text, segments_text, single_text, state_sample};
+ghost use Rattle.xp_console.specs.Metrics.{calls_text, count_in, directions_text, events_text, failures_text, head_text, is_same_state, labelled_text, lines_text, live_text, metrics_text, octets_text, records_text, reloads_text, results_text, cause_sample, causes_text, refused_text, sample_text, segments_text, single_text, state_sample};
 
 use crate::refused::RefusedCalls;
 use crate::station_metrics::push_stations;
-use crate::status::{ExchangeStatus, LineState, LineStatus, LiveCall, Totals};
+use crate::status::{ExchangeStatus, LineState, LineStatus, LiveCall, ReloadCounts, Totals};
 use crate::words::{cause_text, state_text};
 use itoa::Buffer;
 use std::alloc::{AllocError, Global};
@@ -23,6 +23,8 @@ const ROUTER_REFUSALS: &str = "gonukire_router_refusals_total";
 const SEGMENTS: &str = "gonukire_segments_total";
 
 const OCTETS: &str = "gonukire_link_octets_total";
+
+const RELOADS: &str = "gonukire_reloads_total";
 
 const STATES: [LineState; 6] = [
     LineState::OutOfService,
@@ -48,6 +50,7 @@ pub(crate) fn status_metrics(alloc: Global, status: &ExchangeStatus) -> Result<S
     push_octets(&mut text, &status.totals)?;
     push_events(&mut text, &status.totals)?;
     push_records(&mut text, &status.totals)?;
+    push_reloads(&mut text, &status.reloads)?;
     Ok(text)
 }
 
@@ -233,6 +236,23 @@ fn push_records(text: &mut String, totals: &Totals) -> Result<(), AllocError>
     push_single(text, "gonukire_records_waiting", GAUGE, help, waiting)?;
     let help = "Calls of the run before that got a partial record.";
     push_single(text, "gonukire_partial_records", GAUGE, help, partial)
+}
+
+/// How often the subscription file was read again, by what became of it.
+fn push_reloads(text: &mut String, reloads: &ReloadCounts) -> Result<(), AllocError>
+    ensures { OnOk result (string_bytes text.new ≡ string_bytes text.old ++ reloads_text reloads.now) }
+{
+    let help = "Reloads of the subscription file, by what became of them.";
+    push_head(text, RELOADS, COUNTER, help)?;
+    push_results(text, reloads)
+}
+
+/// A sample for each of what may become of a reload.
+fn push_results(text: &mut String, reloads: &ReloadCounts) -> Result<(), AllocError>
+    ensures { OnOk result (string_bytes text.new ≡ string_bytes text.old ++ results_text reloads.now) }
+{
+    push_labelled(text, RELOADS, "result", "done", reloads.done)?;
+    push_labelled(text, RELOADS, "result", "refused", reloads.refused)
 }
 
 /// A sample for each of two directions.

@@ -208,6 +208,7 @@ function showCounts(status) {
     ["segments of ended calls, from called", count(totals.segments_from_called)],
     ["failed connections to routers", count(totals.router_failures)], ["events", count(totals.events)], ["stalls", count(totals.stalls)], ["records waiting", count(totals.records_waiting)],
     ["partial records of the run before", count(totals.partial_records)],
+    ["reloads", count(status.reloads.done)], ["refused reloads", count(status.reloads.refused)],
     ["octets received", count(totals.octets_received)], ["octets sent", count(totals.octets_sent)]];
   const list = document.getElementById("counts");
   facts.forEach(([name, value], place) => {
@@ -235,7 +236,8 @@ function show() {
   showLines(lines, told(lines, latest.lines, word || lines.length < latest.lines.length));
   showCalls(calls, told(calls, latest.calls, word));
   showRecent(recent.reverse(), (word ? recent.length + " of " : "") + "the last " + latest.recent.length + ", the latest first");
-  document.getElementById("moment").textContent = moment(now) + " UTC, serving for " + age(now - latest.started);
+  const last = latest.reloads.last, reloaded = last === null ? "" : ", subscriptions of " + (sameDay(last, now) ? moment(last).slice(11) : moment(last));
+  document.getElementById("moment").textContent = moment(now) + " UTC, serving for " + age(now - latest.started) + reloaded;
 }
 async function refresh() {
   try {

@@ -1,20 +1,17 @@
 //! Which request gets which answer.
 
 ghost use Rattle.std.specs.Prelude.{◌≡◌, ◌↔◌, IsTrue};
-ghost use Rattle.http.specs.Request.{head_of};
+ghost use Rattle.http.specs.Request.{body_of, head_of};
 ghost use Rattle.http.specs.declared.request.Parts.{Parts};
-ghost use Rattle.xp_console.specs.Requests.{HasStopHeader, IsAddressed, IsAnswer, IsResourceAt, MayAsk};
+ghost use Rattle.xp_console.specs.Requests.{HasHeader, IsAddressed, IsAnswer, IsResourceAt, MayAsk, SaysWord};
 
 use crate::hosts::names_console;
 use bytes::Bytes;
 use http::Request;
 use std::net::IpAddr;
 
-/// The header field that a stop has to have, in lower case.
-const STOP_HEADER: &str = "x-gonukire";
-
-/// What it has to say.
-const STOP_WORD: &str = "stop";
+/// The header field that a stop and a reload have to have, in lower case.
+const HEADER: &str = "x-gonukire";
 
 /// How the status is written.
 #[derive(Clone, Copy, PartialEq, Eq)]
@@ -38,12 +35,14 @@ pub enum Resource {
     Health,
     /// `/stop`: the clean stop of the exchange.
     Stop,
+    /// `/reload`: the subscription file is read again.
+    Reload,
 }
 
 /// What a request is answered.
 #[derive(Clone, Copy, PartialEq, Eq)]
 pub enum Answer {
-    /// The resource is shown; the stop is taken.
+    /// The resource is shown; the stop or the reload is taken.
     Granted(Resource),
     /// 421: the request was not addressed to the console.
     Misdirected,
@@ -51,13 +50,15 @@ pub enum Answer {
     NotFound,
     /// 405: the resource has other methods.
     WrongMethod(Resource),
-    /// 403: the stop lacks its header.
-    Forbidden,
+    /// 403: the stop or the reload lacks its header.
+    Forbidden(Resource),
+    /// 400: the reload has a body.
+    HasBody,
 }
 
 /// What a request is answered by a console with this address.
 pub fn answer_to(own: IpAddr, request: &Request<Bytes>) -> Answer
-    ensures { IsAnswer own (head_of request.now) result }
+    ensures { IsAnswer own (head_of request.now) (body_of request.now) result }
 {
     if !is_addressed(own, request) {
         return Answer::Misdirected;
@@ -68,8 +69,11 @@ pub fn answer_to(own: IpAddr, request: &Request<Bytes>) -> Answer
     if !may_ask(resource, request.method().as_str()) {
         return Answer::WrongMethod(resource);
     }
-    if resource == Resource::Stop && !has_stop_header(request) {
-        return Answer::Forbidden;
+    if !has_header(resource, request) {
+        return Answer::Forbidden(resource);
+    }
+    if resource == Resource::Reload && !request.body().is_empty() {
+        return Answer::HasBody;
     }
     Answer::Granted(resource)
 }
@@ -98,6 +102,7 @@ fn resource_at(path: &str) -> Option<Resource>
         "/metrics" => Some(Resource::Status(Format::Metrics)),
         "/healthz" => Some(Resource::Health),
         "/stop" => Some(Resource::Stop),
+        "/reload" => Some(Resource::Reload),
         _ => None,
     }
 }
@@ -107,17 +112,28 @@ fn may_ask(resource: Resource, method: &str) -> bool
     ensures { IsTrue result ↔ MayAsk resource method.now }
 {
     match resource {
-        Resource::Stop => method == "POST",
+        Resource::Stop | Resource::Reload => method == "POST",
         _ => method == "GET" || method == "HEAD",
     }
 }
 
-/// Whether the request has the header that a stop has to have. A page of another site can't send it unasked.
-fn has_stop_header(request: &Request<Bytes>) -> bool
-    ensures { IsTrue result ↔ HasStopHeader (head_of request.now) }
+/// Whether the request has the header that the resource asks for. A page of another site can't send it unasked.
+fn has_header(resource: Resource, request: &Request<Bytes>) -> bool
+    ensures { IsTrue result ↔ HasHeader resource (head_of request.now) }
 {
-    match request.headers().get(STOP_HEADER) {
-        Some(value) => value.as_bytes() == STOP_WORD.as_bytes(),
+    match resource {
+        Resource::Stop => says(request, "stop"),
+        Resource::Reload => says(request, "reload"),
+        _ => true,
+    }
+}
+
+/// Whether the header field says this word.
+fn says(request: &Request<Bytes>, word: &str) -> bool
+    ensures { IsTrue result ↔ SaysWord word.now (head_of request.now) }
+{
+    match request.headers().get(HEADER) {
+        Some(value) => value.as_bytes() == word.as_bytes(),
         None => false,
     }
 }

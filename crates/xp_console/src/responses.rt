@@ -62,6 +62,16 @@ pub(crate) fn say_allowed(response: &mut Response, methods: &'static str)
     }
 }
 
+/// Answers 503: it may be tried again, in 10 seconds.
+pub(crate) fn say_busy(response: &mut Response)
+    requires { IsBlank response.old }
+    ensures { Says 503 Kind.Text ((codes "retry-after", codes "10") ∷ []) (codes "busy\n") response.new }
+{
+    if fill_busy(response).is_err() {
+        be_unavailable(response);
+    }
+}
+
 /// Answers 503: memory is wanting.
 pub(crate) fn be_unavailable(response: &mut Response)
     ensures { IsUnavailable response.new }
@@ -82,6 +92,19 @@ fn fill_allowed(response: &mut Response, methods: &'static str) -> Result<(), Al
         b"wrong method\n",
     )?;
     add(response, "allow", methods)
+}
+
+fn fill_busy(response: &mut Response) -> Result<(), AllocError>
+    requires { IsBlank response.old }
+    ensures { OnOk result (IsResponse 503 (fields_for Kind.Text ++ (codes "retry-after", codes "10") ∷ []) (codes "busy\n") response.new) }
+{
+    fill(
+        response,
+        StatusCode::SERVICE_UNAVAILABLE,
+        Kind::Text,
+        b"busy\n",
+    )?;
+    add(response, "retry-after", "10")
 }
 
 pub(crate) fn fill(

@@ -1,17 +1,19 @@
 //! The console as a service of HTTP, over a source of the exchange's status.
 
 ghost use Rattle.std.specs.Prelude.{◌≡◌, [], IfOk, OnErr, string_bytes};
-ghost use Rattle.http.specs.Request.{head_of};
+ghost use Rattle.http.specs.Request.{body_of, head_of};
 ghost use Rattle.http_server.specs.Response.{IsBlank};
-ghost use Rattle.xp_console.specs.Answers.{Grants, IsTextOf, Responds, Serves, Shows, Stops, Tells, kind_of as kind_in};
+ghost use Rattle.xp_console.specs.Answers.{Grants, IsTextOf, Reloads, Responds, Serves, Shows, Stops, Tells, kind_of as kind_in, lacks_text as text_of_lack};
 ghost use Rattle.xp_console.specs.Responses.{Says};
 ghost use Rattle.xp_console.specs.declared.requests.Answer.TheVariants.{Granted};
-ghost use Rattle.xp_console.specs.declared.requests.Resource.TheVariants.{Stop};
+ghost use Rattle.xp_console.specs.declared.reload.ReloadAnswer.{ReloadAnswer};
+ghost use Rattle.xp_console.specs.declared.requests.Resource.TheVariants.{Reload, Stop};
 ghost use Rattle.xp_console.specs.declared.status.ExchangeStatus.{ExchangeStatus};
 
 use crate::json::status_json;
 use crate::metrics::status_metrics;
 use crate::page::page;
+use crate::reload::{ReloadAnswer, tell_reload};
 use crate::requests::{Answer, Format, Resource, answer_to};
 use crate::responses::{Kind, be_unavailable, fill, say, say_allowed};
 use crate::status::ExchangeStatus;
@@ -22,13 +24,14 @@ use http_server::{Response, Service};
 use std::alloc::{AllocError, Global};
 use std::net::IpAddr;
 
-/// What the console is over: it shows one moment of the exchange, and stops it.
+/// What the console is over: it shows one moment of the exchange, stops it, and has its subscription file read again.
 pub trait StatusSource {
     ghost use Rattle.std.specs.declared.net.ip_addr.IpAddr.{IpAddr};
+    ghost use Rattle.std.specs.Prelude.{ℕ, List};
     ghost use Rattle.http.specs.declared.request.Parts.{Parts};
     ghost use Rattle.xp_console.specs.Requests.{IsAnswer};
     ghost use Rattle.xp_console.specs.declared.requests.Answer.TheVariants.{Granted};
-    ghost use Rattle.xp_console.specs.declared.requests.Resource.TheVariants.{Stop};
+    ghost use Rattle.xp_console.specs.declared.requests.Resource.TheVariants.{Reload, Stop};
 
     // From the first state, what is shown may be this, and leaves the second state.
     ghost shows: { Self → ExchangeStatus → Self → Type 0 };
@@ -36,11 +39,20 @@ pub trait StatusSource {
     // From the first state, a stop leaves the second.
     ghost stops: { Self → Self → Type 0 };
 
+    // From the first state, a reload may be answered this, and leaves the second state.
+    ghost reloads: { Self → ReloadAnswer → Self → Type 0 };
+
     // What holds where the source is asked for a stop.
     ghost may_stop: { Type 0 };
 
     // It holds where a console grants a stop to a request.
-    ghost granted: { (own : IpAddr) → (head : Parts) → IsAnswer own head (Granted Stop) → may_stop };
+    ghost granted: { (own : IpAddr) → (head : Parts) → (body : List ℕ) → IsAnswer own head body (Granted Stop) → may_stop };
+
+    // What holds where the source is asked for a reload.
+    ghost may_reload: { Type 0 };
+
+    // It holds where a console grants a reload to a request.
+    ghost reload_granted: { (own : IpAddr) → (head : Parts) → (body : List ℕ) → IsAnswer own head body (Granted Reload) → may_reload };
 
     /// What the exchange shows of this moment.
     ///
@@ -55,6 +67,11 @@ pub trait StatusSource {
     fn stop(&mut self)
         requires { may_stop }
         ensures { stops self.old self.new };
+
+    /// Asks the exchange to read its subscription file again, and waits for what becomes of that, for 10 seconds at most.
+    fn reload(&mut self) -> ReloadAnswer
+        requires { may_reload }
+        ensures { reloads self.old result self.new };
 }
 
 /// The console's service: it answers requests by what a source shows.
@@ -70,7 +87,7 @@ impl<S: StatusSource> ConsoleService<S> {
     /// Answers a request by what the source shows.
     pub fn answer(&mut self, request: &Request<Bytes>, response: &mut Response)
         requires { IsBlank response.old }
-        ensures served { Serves S.shows S.stops self.old.own (head_of request.now) self.old.source response.new self.new.source }
+        ensures served { Serves S.shows S.stops S.reloads self.old.own (head_of request.now) (body_of request.now) self.old.source response.new self.new.source }
         ensures own { self.new.own ≡ self.old.own }
     {
         let answer = answer_to(self.own, request);
@@ -80,7 +97,7 @@ impl<S: StatusSource> ConsoleService<S> {
 
 impl<S: StatusSource> Service for ConsoleService<S> {
     ghost answers = { λ old request response new.
-        Serves S.shows S.stops old.own (head_of request) old.source response new.source × (new.own ≡ old.own) };
+        Serves S.shows S.stops S.reloads old.own (head_of request) (body_of request) old.source response new.source × (new.own ≡ old.own) };
 
     fn call(
         &mut self,
@@ -96,7 +113,8 @@ impl<S: StatusSource> Service for ConsoleService<S> {
 fn respond<S: StatusSource>(alloc: Global, source: &mut S, answer: Answer, response: &mut Response)
     requires blank { IsBlank response.old }
     requires stop { answer ≡ Granted Stop → S.may_stop }
-    ensures { Responds S.shows S.stops answer source.old response.new source.new }
+    requires reload { answer ≡ Granted Reload → S.may_reload }
+    ensures { Responds S.shows S.stops S.reloads answer source.old response.new source.new }
 {
     match answer {
         Answer::Granted(resource) => grant(alloc, source, resource, response),
@@ -106,13 +124,22 @@ fn respond<S: StatusSource>(alloc: Global, source: &mut S, answer: Answer, respo
             b"not addressed to this console\n",
         ),
         Answer::NotFound => refuse(response, StatusCode::NOT_FOUND, b"not found\n"),
-        Answer::WrongMethod(Resource::Stop) => say_allowed(response, "POST"),
+        Answer::WrongMethod(Resource::Stop | Resource::Reload) => say_allowed(response, "POST"),
         Answer::WrongMethod(_) => say_allowed(response, "GET, HEAD"),
-        Answer::Forbidden => refuse(
-            response,
-            StatusCode::FORBIDDEN,
-            b"a stop needs the header X-Gonukire: stop\n",
-        ),
+        Answer::Forbidden(resource) => {
+            refuse(response, StatusCode::FORBIDDEN, lacks_text(resource));
+        }
+        Answer::HasBody => refuse(response, StatusCode::BAD_REQUEST, b"a reload has no body\n"),
+    }
+}
+
+/// Why a resource is refused that lacks its header.
+fn lacks_text(resource: Resource) -> &'static [u8]
+    ensures { result.now ≡ text_of_lack resource }
+{
+    match resource {
+        Resource::Reload => b"a reload needs the header X-Gonukire: reload\n",
+        _ => b"a stop needs the header X-Gonukire: stop\n",
     }
 }
 
@@ -123,7 +150,7 @@ fn refuse(response: &mut Response, status: StatusCode, why: &[u8])
     say(response, status, Kind::Text, why);
 }
 
-/// Responds with what a granted resource shows, or stops the exchange.
+/// Responds with what a granted resource shows, or stops the exchange, or asks for a reload.
 fn grant<S: StatusSource>(
     alloc: Global,
     source: &mut S,
@@ -132,13 +159,15 @@ fn grant<S: StatusSource>(
 )
     requires blank { IsBlank response.old }
     requires stop { resource ≡ Stop → S.may_stop }
-    ensures { Grants S.shows S.stops resource source.old response.new source.new }
+    requires reload { resource ≡ Reload → S.may_reload }
+    ensures { Grants S.shows S.stops S.reloads resource source.old response.new source.new }
 {
     match resource {
         Resource::Page => say(response, StatusCode::OK, Kind::Html, page()),
         Resource::Health => say(response, StatusCode::OK, Kind::Text, b"ok\n"),
         Resource::Status(format) => show(alloc, source, format, response),
         Resource::Stop => take_stop(source, response),
+        Resource::Reload => take_reload(source, response),
     }
 }
 
@@ -195,4 +224,14 @@ fn take_stop<S: StatusSource>(source: &mut S, response: &mut Response)
         Ok(()) => source.stop(),
         Err(_) => be_unavailable(response),
     }
+}
+
+/// Asks for a reload, and responds with what became of it.
+fn take_reload<S: StatusSource>(source: &mut S, response: &mut Response)
+    requires blank { IsBlank response.old }
+    requires reload { S.may_reload }
+    ensures { Reloads S.reloads source.old response.new source.new }
+{
+    let answer = source.reload();
+    tell_reload(answer, response);
 }

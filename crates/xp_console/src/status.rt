@@ -20,6 +20,19 @@ pub struct ExchangeStatus {
     pub stations: Vec<StationCalls>,
     /// What was counted since the exchange began to serve.
     pub totals: Totals,
+    /// The reloads since the exchange began to serve.
+    pub reloads: ReloadCounts,
+}
+
+/// How often the exchange was asked to read its subscription file again.
+#[derive(Clone, Copy, Default, PartialEq, Eq)]
+pub struct ReloadCounts {
+    /// Reloads after which other subscriptions were in force.
+    pub done: u64,
+    /// Reloads that were refused.
+    pub refused: u64,
+    /// The moment of the last one that was done.
+    pub last: Option<u64>,
 }
 
 /// A line, and what it is doing.

@@ -27,7 +27,7 @@ module _ {A : Type 0} where
             (subst Q (sym (append_assoc before (first ∷ []) entries)) then),
       )
 
-  pub acts_on_nothing : (old : Exchange A) → ActsOn old [] old
+  abbrev pub acts_on_nothing : (old : Exchange A) → ActsOn old [] old
   acts_on_nothing old = record { entries = []; run = refl; of_events = refl; history = sym (append-nil old.history); subs = refl; room = inl refl }
 
   -- room for the last is room for all
@@ -58,7 +58,7 @@ module _ {A : Type 0} where
       }
 
   -- one step
-  pub acts_on_one : (old : Exchange A) (event : Event A) (new : Exchange A) (entry : Entry A) → Advances old event new entry → length old.history + 4 ≤ old.subs.journal → ActsOn old (event ∷ []) new
+  abbrev pub acts_on_one : (old : Exchange A) (event : Event A) (new : Exchange A) (entry : Entry A) → Advances old event new entry → length old.history + 4 ≤ old.subs.journal → ActsOn old (event ∷ []) new
   acts_on_one old event new entry advances room = record {
     entries = entry ∷ [];
     run = (world_of new, advances.step, refl);

@@ -8,4 +8,5 @@ pub mod Played
 pub mod Script
 pub mod SoFar
 pub mod Steps
+pub mod TablesLines
 pub mod Tellings

@@ -1,23 +1,30 @@
 -- One line that is played.
-use Rattle.std.proofs.Common.{◌≡◌, ◌⊎◌, ℕ, List, [], Option, Some, Result, Ok, Err, inl, inr, refl, sym, ◌∙◌, subst, append-nil}
+use Rattle.std.proofs.Common.{◌≡◌, ◌⊎◌, ◌<◌, ◌+◌, ℕ, List, [], ◌∷◌, length, Option, None, Some, Result, Ok, Err, inl, inr, refl, sym, ◌∙◌, subst, append-nil}
 use Rattle.std.specs.Io.KnownBytes.{Appends, Keeps}
 use Rattle.xp_step.specs.declared.event.Event.{Event}
 use Rattle.xp_step.specs.Exchange.{Exchange}
 use Rattle.xp_script.specs.declared.command.Command.{Command}
-use Rattle.xp_script.specs.Command.{said}
+use Rattle.xp_script.specs.Command.{reload_of, said}
+use Rattle.xp_script.specs.NamedText.{NamedText}
+use Rattle.xp_step.specs.declared.entry.Entry.{Entry}
 use Rattle.xp_exchange.specs.declared.fault.ReplayFault.{ReplayFault}
-use Rattle.xp_exchange.specs.declared.fault.ReplayFault.TheVariants.{Script, Journal, Memory, Read, Write}
+use Rattle.xp_exchange.specs.declared.fault.ReplayFault.TheVariants.{Script, Journal, Memory, Read, Write, Reload}
 use Rattle.xp_exchange.specs.steps.Acting.{Acted, ActsOnFirst}
-use Rattle.xp_exchange.specs.Play.{PlayState, Plays, BeginsLine, ReadsLine, RefusesLine, moment_after}
+use Rattle.xp_exchange.specs.Play.{Brings, PlayState, Plays, BeginsLine, ReadsLine, RefusesLine, moment_after}
+use Rattle.xp_exchange.specs.WholeScript.{IsWritten}
 use Rattle.xp_exchange.specs.steps.Playing.{Played}
 use Rattle.xp_exchange.proofs.Bytes.{appends_kept}
-use Rattle.xp_exchange.proofs.Tellings.{told_whole}
+use Rattle.xp_exchange.proofs.Tellings.{told_nothing, told_whole}
 
 module _ {A : Type 0} where
+  -- a line that brings no tables brings none
+  pub brings_none : (named : List NamedText) (number : Option ℕ) (entries : List (Entry A)) → number ≡ None → Brings named number entries
+  brings_none named number entries none = subst (λ number. Brings named number entries) (sym none) tt
+
   abbrev begins : (old : PlayState A) (line : List ℕ) (command : Command A) (events : List (Event A)) (after : List (List ℕ)) (now : Exchange A)
-      → said old.exchange.subs line ≡ Some command → Plays old command events after
+      → said old.exchange.subs old.named line ≡ Some command → reload_of command ≡ None → Plays old command events after
       → ActsOnFirst old.exchange events now → BeginsLine old line now
-  begins old line command events after now says plays acted = record {
+  begins old line command events after now says none plays acted = record {
     command = command;
     says = says;
     events = events;
@@ -27,37 +34,53 @@ module _ {A : Type 0} where
     later = acted.later;
     in_order = acted.in_order;
     acts = acted.acts;
+    brings = brings_none old.named (reload_of command) acted.acts.entries none;
   }
 
   -- what came of its events is what came of the line
   pub played : (result : Result (Unit {0}) ReplayFault) (old new : PlayState A) (number : ℕ) (line : List ℕ) (command : Command A) (events : List (Event A)) (text : List ℕ)
-      → said old.exchange.subs line ≡ Some command → Plays old command events new.unfinished → new.moment ≡ moment_after old.moment command
-      → Acted old.exchange events result new.exchange text → Played old number line result new text
-  played (Ok done) old new number line command events text says plays then acted =
-      (record { command = command; says = says; events = events; plays = plays; moment = then; acts = acted.0 }, acted.1)
-  played (Err Journal) old new number line command events text says plays then acted =
-      (begins old line command events new.unfinished new.exchange says plays acted.0, acted.1, acted.2, acted.3)
-  played (Err Memory) old new number line command events text says plays then acted =
-      inr (begins old line command events new.unfinished new.exchange says plays acted.0, acted.1)
-  played (Err Write) old new number line command events text says plays then acted =
-      (begins old line command events new.unfinished new.exchange says plays acted.0, acted.1)
-  played (Err (Script found)) old new number line command events text says plays then acted = elim acted [ ]
-  played (Err Read) old new number line command events text says plays then acted = elim acted [ ]
+      → said old.exchange.subs old.named line ≡ Some command → reload_of command ≡ None → Plays old command events new.unfinished → new.moment ≡ moment_after old.moment command
+      → new.named ≡ old.named → Acted old.exchange events result new.exchange text → Played old number line result new text
+  played (Ok done) old new number line command events text says none plays then same acted = (
+    record {
+      command = command;
+      says = says;
+      events = events;
+      plays = plays;
+      moment = then;
+      acts = acted.0;
+      brings = brings_none old.named (reload_of command) acted.0.entries none;
+      named = same;
+    },
+    acted.1,
+  )
+  played (Err Journal) old new number line command events text says none plays then same acted =
+      (begins old line command events new.unfinished new.exchange says none plays acted.0, acted.1, acted.2, acted.3)
+  played (Err Memory) old new number line command events text says none plays then same acted =
+      inr (begins old line command events new.unfinished new.exchange says none plays acted.0, acted.1)
+  played (Err Write) old new number line command events text says none plays then same acted =
+      (begins old line command events new.unfinished new.exchange says none plays acted.0, acted.1)
+  played (Err (Script found)) old new number line command events text says none plays then same acted = elim acted [ ]
+  played (Err Read) old new number line command events text says none plays then same acted = elim acted [ ]
+  played (Err (Reload found tables why)) old new number line command events text says none plays then same acted = elim acted [ ]
 
   -- what came of its events is what came of the line that was read
   pub played_read : (result : Result (Unit {0}) ReplayFault) (old read new : PlayState A) (number : ℕ) (line : List ℕ) (events : List (Event A)) (text : List ℕ)
-      → ReadsLine old line events read → new.unfinished ≡ read.unfinished → new.moment ≡ read.moment
+      → ReadsLine old line events read → new.unfinished ≡ read.unfinished → new.moment ≡ read.moment → new.named ≡ read.named
       → Acted read.exchange events result new.exchange text → Played old number line result new text
-  played_read result old read new number line events text reads rest moment acted =
-      played result old new number line reads.command events text reads.says (subst (Plays old reads.command events) (sym rest) reads.plays) (moment ∙ reads.moment)
+  played_read result old read new number line events text reads rest moment named acted =
+      played result old new number line reads.command events text reads.says reads.brings_none (subst (Plays old reads.command events) (sym rest) reads.plays) (moment ∙ reads.moment) (named ∙ reads.named)
       (subst (λ exchange. Acted exchange events result new.exchange text) reads.exchange acted)
 
   -- a line that is not read
-  pub not_read : (fault : ReplayFault) (old new : PlayState A) (number : ℕ) (line : List ℕ) → RefusesLine A old.exchange.subs number line fault → new.exchange ≡ old.exchange
+  pub not_read : (fault : ReplayFault) (old new : PlayState A) (number : ℕ) (line : List ℕ) → RefusesLine old number line fault → new.exchange ≡ old.exchange
       → Played old number line (Err fault) new []
   not_read (Script found) old new number line refused same = (refused.0, refused.1, (same, refl))
   not_read Memory old new number line refused same = inl (same, refl)
-  not_read Journal old new number line refused same = elim refused [ ]
+  not_read Journal old new number line refused same =
+      subst (λ exchange. (begun : BeginsLine old line exchange) × IsWritten old.exchange exchange [] × (0 < length begun.later) × (exchange.subs.journal < length exchange.history + 4)) (sym same)
+      (refused.0, told_nothing old.exchange, refused.1, refused.2)
+  not_read (Reload found tables why) old new number line refused same = (refused.0, refused.1, (same, refl))
   not_read Read old new number line refused same = elim refused [ ]
   not_read Write old new number line refused same = elim refused [ ]
 
@@ -74,6 +97,7 @@ module _ {A : Type 0} where
       later = [];
       in_order = sym (append-nil done.0.events);
       acts = done.0.acts;
+      brings = done.0.brings;
     },
     told_whole old.exchange new.exchange text done.1,
   )

@@ -6,6 +6,7 @@ use Rattle.xp_subs.specs.Tables.{Tables}
 use Rattle.xp_step.specs.Exchange.{Exchange}
 use Rattle.xp_exchange.specs.declared.fault.ReplayFault.{ReplayFault}
 use Rattle.xp_exchange.specs.declared.fault.ReplayFault.TheVariants.{Memory, Read}
+use Rattle.xp_script.specs.NamedText.{NamedText}
 use Rattle.xp_exchange.specs.Play.{PlayState, PlaysAll, opened, start}
 use Rattle.xp_exchange.specs.steps.Replaying.{Progress, TakesIn, Took, Finished, ReplaysFrom}
 use Rattle.xp_exchange.specs.WholeScript.{StopsAt, Stops, Replays, ReplaysAlone}
@@ -169,35 +170,35 @@ module _ {A : Type 0} where
           subst (λ rest. Stops first.state first.number (first.line ++ rest) fault now next.state.exchange (so_far.text ++ finished.0)) (append-nil so_far.taken)
           (took_stops fault first progress next.state so_far.taken [] now so_far.text finished.0 so_far.took tt clean stopped)
 
-  from_start : (old : Exchange A) (script : List ℕ) (result : Result (Unit {0}) ReplayFault) (left : Option (List ℕ)) (after : Exchange A) (text : List ℕ)
-      → ReplaysFrom (record { state = start old; line = []; number = 1 }) script result left after text → Replays old script result left after text
-  from_start old script (Ok done) left after text replays = replays
-  from_start old script (Err fault) left after text replays = replays
+  from_start : (old : Exchange A) (named : List NamedText) (script : List ℕ) (result : Result (Unit {0}) ReplayFault) (left : Option (List ℕ)) (after : Exchange A) (text : List ℕ)
+      → ReplaysFrom (record { state = start old named; line = []; number = 1 }) script result left after text → Replays old named script result left after text
+  from_start old named script (Ok done) left after text replays = replays
+  from_start old named script (Err fault) left after text replays = replays
 
-  abbrev pub Wrote : Exchange A → Option (List ℕ) → Option (List ℕ) → Result (Unit {0}) ReplayFault → Option (List ℕ) → Exchange A → List ℕ → Type 0
-  Wrote first old new result left after script = (text : List ℕ) × Appends old new text × Replays first script result left after text
+  abbrev pub Wrote : Exchange A → List NamedText → Option (List ℕ) → Option (List ℕ) → Result (Unit {0}) ReplayFault → Option (List ℕ) → Exchange A → List ℕ → Type 0
+  Wrote first named old new result left after script = (text : List ℕ) × Appends old new text × Replays first named script result left after text
 
   -- a replay that began with nothing
-  pub told_from_start : (exchange : Exchange A) (source old new left : Option (List ℕ)) (first : Progress A) (result : Result (Unit {0}) ReplayFault) (after : Exchange A)
-      → first ≡ record { state = start exchange; line = []; number = 1 } → IfSome source (Told first old new result left after)
-      → IfSome source (Wrote exchange old new result left after)
-  told_from_start exchange None old new left first result after begun told = tt
-  told_from_start exchange (Some script) old new left first result after begun told =
-      (told.0, told.1, from_start exchange script result left after told.0 (subst (λ progress. ReplaysFrom progress script result left after told.0) begun told.2))
+  pub told_from_start : (exchange : Exchange A) (named : List NamedText) (source old new left : Option (List ℕ)) (first : Progress A) (result : Result (Unit {0}) ReplayFault) (after : Exchange A)
+      → first ≡ record { state = start exchange named; line = []; number = 1 } → IfSome source (Told first old new result left after)
+      → IfSome source (Wrote exchange named old new result left after)
+  told_from_start exchange named None old new left first result after begun told = tt
+  told_from_start exchange named (Some script) old new left first result after begun told =
+      (told.0, told.1, from_start exchange named script result left after told.0 (subst (λ progress. ReplaysFrom progress script result left after told.0) begun told.2))
 
   -- nothing was read yet
-  pub told_first : (exchange : Exchange A) (source known : Option (List ℕ)) → IfSome source (Wrote exchange known known (Err Memory) source exchange)
-  told_first exchange None known = tt
-  told_first exchange (Some script) known = ([], appends_nothing known, stops_first (start exchange) 1 script (Some script))
+  pub told_first : (exchange : Exchange A) (named : List NamedText) (source known : Option (List ℕ)) → IfSome source (Wrote exchange named known known (Err Memory) source exchange)
+  told_first exchange named None known = tt
+  told_first exchange named (Some script) known = ([], appends_nothing known, stops_first (start exchange named) 1 script (Some script))
 
 module _ (A : Type 0) where
-  abbrev pub WroteAlone : Tables → Option (List ℕ) → Option (List ℕ) → Result (Unit {0}) ReplayFault → List ℕ → Type 0
-  WroteAlone tables old new result script = (text : List ℕ) × Appends old new text × ReplaysAlone A tables script result text
+  abbrev pub WroteAlone : Tables → List NamedText → Option (List ℕ) → Option (List ℕ) → Result (Unit {0}) ReplayFault → List ℕ → Type 0
+  WroteAlone tables named old new result script = (text : List ℕ) × Appends old new text × ReplaysAlone A tables named script result text
 
   -- on an exchange that was opened for it
-  pub told_alone : (tables : Tables) (source old new left : Option (List ℕ)) (first after : Exchange A) (result : Result (Unit {0}) ReplayFault) → first ≡ opened tables
-      → IfSome source (Wrote first old new result left after) → IfSome source (WroteAlone tables old new result)
-  told_alone tables None old new left first after result same told = tt
-  told_alone tables (Some script) old new left first after result same told =
-      let wrote = subst (λ exchange. Wrote exchange old new result left after script) same told in
+  pub told_alone : (tables : Tables) (named : List NamedText) (source old new left : Option (List ℕ)) (first after : Exchange A) (result : Result (Unit {0}) ReplayFault) → first ≡ opened tables
+      → IfSome source (Wrote first named old new result left after) → IfSome source (WroteAlone tables named old new result)
+  told_alone tables named None old new left first after result same told = tt
+  told_alone tables named (Some script) old new left first after result same told =
+      let wrote = subst (λ exchange. Wrote exchange named old new result left after script) same told in
       (wrote.0, wrote.1, record { left = left; after = after; replays = wrote.2 })

@@ -9,7 +9,7 @@ use Rattle.xp_step.specs.declared.event.Event.{Event}
 use Rattle.xp_step.specs.Exchange.{Exchange, Advances}
 use Rattle.xp_script.specs.Text.{entry_text}
 use Rattle.xp_exchange.specs.declared.fault.ReplayFault.{ReplayFault}
-use Rattle.xp_exchange.specs.declared.fault.ReplayFault.TheVariants.{Script, Journal, Memory, Read, Write}
+use Rattle.xp_exchange.specs.declared.fault.ReplayFault.TheVariants.{Script, Journal, Memory, Read, Write, Reload}
 use Rattle.xp_core.specs.declared.fault.StepFault.{StepFault}
 use Rattle.xp_core.specs.declared.fault.StepFault.TheVariants as steps
 use Rattle.xp_exchange.specs.Play.{ActsOn, Enters, RefusesEvent}
@@ -59,6 +59,7 @@ module _ {A : Type 0} where
       go (Err Journal) tells = elim tells [ ]
       go (Err Read) tells = elim tells [ ]
       go (Err (Script number)) tells = elim tells [ ]
+      go (Err (Reload number which why)) tells = elim tells [ ]
 
   -- What was acted on and written does not depend on which records wait.
   acts_alike : (old new : Exchange A) (events : List (Event A)) (given waiting : List Record) → ActsOn old events new → ActsOn old events (record new { given = given; waiting = waiting })
@@ -89,6 +90,7 @@ module _ {A : Type 0} where
   )
   acted_alike (Err Read) old new events text given waiting acted = elim acted [ ]
   acted_alike (Err (Script number)) old new events text given waiting acted = elim acted [ ]
+  acted_alike (Err (Reload number which why)) old new events text given waiting acted = elim acted [ ]
 
   abbrev IsFull : StepFault A → Type 0
   IsFull (steps.JournalFull event) = Unit {0}

@@ -1,7 +1,12 @@
 -- What the lines of a script do, in turn.
-use Rattle.std.specs.Prelude.{◌≡◌, ◌⊎◌, ◌+◌, ◌<◌, ◌≤◌, ℕ, Bool, true, false, List, [], ◌∷◌, ◌++◌, length, map, replicate, slice_index_or, slice_set, None, Some}
+use Rattle.std.specs.Prelude.{◌≡◌, ◌⊎◌, ◌+◌, ◌<◌, ◌≤◌, ℕ, Bool, true, false, List, [], ◌∷◌, ◌++◌, length, map, replicate, slice_index_or, slice_set, Option, None, Some, Ok, All}
+use Rattle.std.specs.List.{AllByRecursion}
 use Rattle.xp_packets.specs.declared.modulus.Modulus.{Modulus}
+use Rattle.xp_subs.specs.Built.{SetsUp}
 use Rattle.xp_subs.specs.Tables.{Tables, line_count, modulus_of}
+use Rattle.xp_core.specs.Lines.{HasLines}
+use Rattle.xp_core.specs.Reload.{IsRefusedFor, reload_at}
+use Rattle.xp_core.specs.declared.reload.ReloadFault.{ReloadFault}
 use Rattle.xp_step.specs.declared.entry.Entry.{Entry}
 use Rattle.xp_step.specs.declared.event.Event.{Event}
 use Rattle.xp_step.specs.declared.event.What.{What}
@@ -12,10 +17,12 @@ use Rattle.xp_step.specs.Run.{RunFrom}
 use Rattle.xp_machine.specs.World.{World, state_at}
 use Rattle.xp_script.specs.declared.command.Command.{Command}
 use Rattle.xp_script.specs.declared.command.Command.TheVariants as commands
-use Rattle.xp_script.specs.Command.{said}
-use Rattle.xp_exchange.specs.FrameEvents.{ReadsEvents}
+use Rattle.xp_script.specs.Command.{reload_of, said}
+use Rattle.xp_script.specs.NamedText.{NamedText, text_at}
+use Rattle.xp_exchange.specs.FrameEvents.{Fits, ReadsEvents}
+use Rattle.xp_exchange.specs.declared.reloaded.Reloaded.{Reloaded}
 use Rattle.xp_exchange.specs.declared.fault.ReplayFault.{ReplayFault}
-use Rattle.xp_exchange.specs.declared.fault.ReplayFault.TheVariants.{Script, Journal, Memory, Read, Write}
+use Rattle.xp_exchange.specs.declared.fault.ReplayFault.TheVariants.{Script, Journal, Memory, Read, Write, Reload}
 
 -- the octets of an unfinished frame on the connection of a line
 abbrev pub unfinished_at : List (List ℕ) → ℕ → List ℕ
@@ -30,12 +37,17 @@ abbrev pub risen : Bool → ℕ → List (List ℕ) → List (List ℕ)
 risen true line unfinished = slice_set unfinished line []
 risen false line unfinished = unfinished
 
--- The state between two lines of a script: the exchange, for each line the octets of an unfinished frame, and the
--- moment of the events that follow.
+-- The state between two lines of a script: the exchange, for each line the octets of an unfinished frame, the moment of
+-- the events that follow, and the subscriptions that lines may bring into force.
 pub record PlayState (A : Type 0) : Type 0 where
   pub exchange : Exchange A
   pub unfinished : List (List ℕ)
   pub moment : ℕ
+  pub named : List NamedText
+
+-- the text of this number sets up these tables
+abbrev pub SetsUpAt : List NamedText → ℕ → Tables → Type 0
+SetsUpAt named number tables = SetsUp (text_at named number) (Ok tables)
 
 module _ {A : Type 0} where
   abbrev pub event_of : ℕ → ℕ → What A → Event A
@@ -62,28 +74,28 @@ module _ {A : Type 0} where
       ReadsEventsAt (is_off_at (world_of state.exchange) line) (modulus_of state.exchange.subs line) line state.moment
       state.unfinished octets events after
   Plays state (commands.At moment) events after = (events ≡ []) × (after ≡ state.unfinished)
+  Plays state (commands.Reload number) events after = (events ≡ reload_at state.moment ∷ []) × (after ≡ state.unfinished)
 
   -- the moment of the events that follow a command
   abbrev pub moment_after : ℕ → Command A → ℕ
   moment_after before (commands.At moment) = moment
   moment_after before command = before
 
--- why the line of this number is not read
-abbrev pub RefusesLine : (A : Type 0) → Tables → ℕ → List ℕ → ReplayFault → Type 0
-RefusesLine A tables number line (Script found) = (found ≡ number) × (said {A = A} tables line ≡ None)
-RefusesLine A tables number line Memory = Unit {0}
-RefusesLine A tables number line Journal = ⊥
-RefusesLine A tables number line Read = ⊥
-RefusesLine A tables number line Write = ⊥
-
 module _ {A : Type 0} where
+  -- what the entries of a line bring: the tables of this number, if it is a line of `tables`
+  abbrev pub Brings : List NamedText → Option ℕ → List (Entry A) → Type 0
+  Brings named None entries = Unit {0}
+  Brings named (Some number) entries =
+      AllByRecursion (λ (entry : Entry A). (tables : Tables) × SetsUpAt named number tables × (entry.tables.items ≡ tables ∷ [])) entries
+
   -- a new exchange
   abbrev pub opened : Tables → Exchange A
   opened tables = record { subs = tables; history = []; given = []; waiting = []; stalls = 0 }
 
   -- a script begins: no frame is unfinished, and the moment is 0
-  abbrev pub start : Exchange A → PlayState A
-  start exchange = record { exchange = exchange; unfinished = replicate (line_count exchange.subs) []; moment = 0 }
+  abbrev pub start : Exchange A → List NamedText → PlayState A
+  start exchange named =
+      record { exchange = exchange; unfinished = replicate (line_count exchange.subs) []; moment = 0; named = named }
 
   -- The exchange acts on these events in turn, and enters one entry for each.
   pub record ActsOn (old : Exchange A) (events : List (Event A)) (new : Exchange A) : Type 0 where
@@ -108,28 +120,68 @@ module _ {A : Type 0} where
   RefusesEvent exchange (Script number) = ⊥
   RefusesEvent exchange Read = ⊥
   RefusesEvent exchange Write = ⊥
+  RefusesEvent exchange (Reload number tables fault) = ⊥
 
-  -- One line of a script is read: these are its events. The exchange has acted on none of them yet.
+  -- The tables of this number come into force at this moment, and this is the entry of that.
+  pub record Reloads (old : Exchange A) (named : List NamedText) (number moment : ℕ) (new : Exchange A) (entry : Entry A) : Type 0 where
+    pub enters : Enters old (reload_at moment) new entry
+    pub entries : enters.acts.entries ≡ entry ∷ []
+    pub tables : Tables
+    pub set_up : SetsUpAt named number tables
+    pub brought : entry.tables.items ≡ tables ∷ []
+    pub quiet : entry.outputs ≡ []
+
+  -- One line of a script is read, which brings no tables: these are its events. The exchange has acted on none of them yet.
   pub record ReadsLine (old : PlayState A) (line : List ℕ) (events : List (Event A)) (new : PlayState A) : Type 0 where
     pub command : Command A
-    pub says : said old.exchange.subs line ≡ Some command
+    pub says : said old.exchange.subs old.named line ≡ Some command
+    pub brings_none : reload_of command ≡ None
     pub plays : Plays old command events new.unfinished
     pub moment : new.moment ≡ moment_after old.moment command
     pub exchange : new.exchange ≡ old.exchange
+    pub named : new.named ≡ old.named
+
+  -- One line of a script is read, which brings tables. They are in force.
+  pub record ReloadsLine (old : PlayState A) (line : List ℕ) (new : PlayState A) (done : Reloaded A) : Type 0 where
+    pub says : said {A = A} old.exchange.subs old.named line ≡ Some (commands.Reload done.number)
+    pub known : done.number < length old.named
+    pub reloads : Reloads old.exchange old.named done.number old.moment new.exchange done.entry
+    pub stands : done.entry.event.line < line_count old.exchange.subs
+    pub lines : HasLines (line_count old.exchange.subs) done.entry
+    pub kept : new ≡ record old { exchange = new.exchange }
+
+  -- what comes of reading a line: the entry by which it brought tables into force, or events on which the exchange can act
+  abbrev pub LineRead : PlayState A → List ℕ → List (Event A) → PlayState A → Option (Reloaded A) → Type 0
+  LineRead old line events new None = ReadsLine old line events new × All (Fits old.exchange.subs) events
+  LineRead old line events new (Some done) = ReloadsLine old line new done
+
+  -- The text of this number sets up tables that cannot come into force now.
+  pub record IsRefusedText (exchange : Exchange A) (named : List NamedText) (number : ℕ) (fault : ReloadFault) : Type 0 where
+    pub tables : Tables
+    pub set_up : SetsUpAt named number tables
+    pub refused : IsRefusedFor exchange tables fault
+
+  -- the line would bring these tables
+  abbrev pub RefusesTables : PlayState A → List ℕ → ℕ → ReloadFault → Type 0
+  RefusesTables old line number fault =
+      (said {A = A} old.exchange.subs old.named line ≡ Some (commands.Reload number))
+      × IsRefusedText old.exchange old.named number fault
 
   -- One line of a script is played to its end.
   pub record PlaysLine (old : PlayState A) (line : List ℕ) (new : PlayState A) : Type 0 where
     pub command : Command A
-    pub says : said old.exchange.subs line ≡ Some command
+    pub says : said old.exchange.subs old.named line ≡ Some command
     pub events : List (Event A)
     pub plays : Plays old command events new.unfinished
     pub moment : new.moment ≡ moment_after old.moment command
     pub acts : ActsOn old.exchange events new.exchange
+    pub brings : Brings old.named (reload_of command) acts.entries
+    pub named : new.named ≡ old.named
 
   -- One line of a script is played in part: its first events are acted on. They may be none, and they may be all.
   pub record BeginsLine (old : PlayState A) (line : List ℕ) (new : Exchange A) : Type 0 where
     pub command : Command A
-    pub says : said old.exchange.subs line ≡ Some command
+    pub says : said old.exchange.subs old.named line ≡ Some command
     pub events : List (Event A)
     pub after : List (List ℕ)
     pub plays : Plays old command events after
@@ -137,6 +189,19 @@ module _ {A : Type 0} where
     pub later : List (Event A)
     pub in_order : events ≡ first ++ later
     pub acts : ActsOn old.exchange first new
+    pub brings : Brings old.named (reload_of command) acts.entries
+
+  -- why the line of this number is not read
+  abbrev pub RefusesLine : PlayState A → ℕ → List ℕ → ReplayFault → Type 0
+  RefusesLine old number line (Script found) =
+      (found ≡ number) × (said {A = A} old.exchange.subs old.named line ≡ None)
+  RefusesLine old number line Memory = Unit {0}
+  RefusesLine old number line Journal =
+      (begun : BeginsLine old line old.exchange) × (0 < length begun.later)
+      × (old.exchange.subs.journal < length old.exchange.history + 4)
+  RefusesLine old number line (Reload found tables fault) = (found ≡ number) × RefusesTables old line tables fault
+  RefusesLine old number line Read = ⊥
+  RefusesLine old number line Write = ⊥
 
   -- The lines of a script are played in turn. The list has the latest first
   abbrev pub PlaysAll : PlayState A → List (List ℕ) → PlayState A → Type 0

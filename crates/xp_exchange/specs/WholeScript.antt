@@ -6,15 +6,16 @@ use Rattle.xp_step.specs.declared.entry.Entry.{Entry}
 use Rattle.xp_step.specs.declared.event.Event.{Event}
 use Rattle.xp_step.specs.Exchange.{Exchange}
 use Rattle.xp_script.specs.Command.{said, longest}
+use Rattle.xp_script.specs.NamedText.{NamedText}
 use Rattle.xp_script.specs.Text.{text_of}
 use Rattle.xp_exchange.specs.declared.fault.ReplayFault.{ReplayFault}
-use Rattle.xp_exchange.specs.declared.fault.ReplayFault.TheVariants.{Script, Journal, Memory, Read, Write}
-use Rattle.xp_exchange.specs.Play.{PlayState, PlaysAll, BeginsLine, opened, start}
+use Rattle.xp_exchange.specs.declared.fault.ReplayFault.TheVariants.{Script, Journal, Memory, Read, Write, Reload}
+use Rattle.xp_exchange.specs.Play.{PlayState, PlaysAll, BeginsLine, RefusesTables, opened, start}
 use Rattle.xp_exchange.specs.Splitting.{IsSplit, joined, HasNoFeed, EndsLine}
 
 -- The line is over and says nothing that a script may say, or what was read of it is too long already
-abbrev pub IsFaulty : (A : Type 0) → Tables → List ℕ → List ℕ → Type 0
-IsFaulty A tables line more = (EndsLine more × (said {A = A} tables line ≡ None)) ⊎ (longest < length line)
+abbrev pub IsFaulty : (A : Type 0) → Tables → List NamedText → List ℕ → List ℕ → Type 0
+IsFaulty A tables named line more = (EndsLine more × (said {A = A} tables named line ≡ None)) ⊎ (longest < length line)
 
 module _ {A : Type 0} where
   -- The text is that of all entries from the old exchange to the new.
@@ -56,7 +57,7 @@ module _ {A : Type 0} where
   -- exchange afterwards, and what was written for this line
   abbrev pub StopsAt : PlayState A → List ℕ → List ℕ → ℕ → ReplayFault → Option (List ℕ) → Exchange A → List ℕ → Type 0
   StopsAt at line more number (Script found) left after own =
-      (found ≡ number) × IsFaulty A at.exchange.subs line more × StopsBeforeLine at after own
+      (found ≡ number) × IsFaulty A at.exchange.subs at.named line more × StopsBeforeLine at after own
   StopsAt at line more number Read left after own = (left ≡ Some more) × StopsBeforeLine at after own
   StopsAt at line more number Memory left after own =
       StopsBeforeLine at after own
@@ -66,6 +67,8 @@ module _ {A : Type 0} where
       × (0 < length within.begun.later) × (after.subs.journal < length after.history + 4)
   StopsAt at line more number Write left after own =
       StopsWithinLine at line more after × IsWrittenInPart at.exchange after own
+  StopsAt at line more number (Reload found tables fault) left after own =
+      (found ≡ number) × EndsLine more × RefusesTables at line tables fault × StopsBeforeLine at after own
 
   -- Whole lines were played, the first of this number, and all their text is written, whatever the fault.
   -- It stopped at the next line, of which `line` was read.
@@ -95,13 +98,14 @@ module _ {A : Type 0} where
     pub after_is : after ≡ at.exchange
     pub told : IsWritten first.exchange after text
 
-  -- what `replay_on` returns for a script, what the reader has left, the exchange afterwards, and what is written
-  abbrev pub Replays : Exchange A → List ℕ → Result (Unit {0}) ReplayFault → Option (List ℕ) → Exchange A → List ℕ → Type 0
-  Replays old script (Ok done) left after text = (left ≡ Some []) × PlaysOut (start old) script after text
-  Replays old script (Err fault) left after text = Stops (start old) 1 script fault left after text
+  -- what `replay_on` returns for a script that may name these texts, what the reader has left, the exchange afterwards,
+  -- and what is written
+  abbrev pub Replays : Exchange A → List NamedText → List ℕ → Result (Unit {0}) ReplayFault → Option (List ℕ) → Exchange A → List ℕ → Type 0
+  Replays old named script (Ok done) left after text = (left ≡ Some []) × PlaysOut (start old named) script after text
+  Replays old named script (Err fault) left after text = Stops (start old named) 1 script fault left after text
 
 -- The same for `replay`, which opens the exchange. Its caller sees neither that exchange nor the reader afterwards.
-pub record ReplaysAlone (A : Type 0) (tables : Tables) (script : List ℕ) (result : Result (Unit {0}) ReplayFault) (text : List ℕ) : Type 0 where
+pub record ReplaysAlone (A : Type 0) (tables : Tables) (named : List NamedText) (script : List ℕ) (result : Result (Unit {0}) ReplayFault) (text : List ℕ) : Type 0 where
   pub left : Option (List ℕ)
   pub after : Exchange A
-  pub replays : Replays (opened tables) script result left after text
+  pub replays : Replays (opened tables) named script result left after text

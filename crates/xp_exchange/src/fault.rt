@@ -3,6 +3,7 @@ ghost use Rattle.xp_exchange.specs.declared.fault.ReplayFault.TheVariants.{Memor
 
 use std::alloc::AllocError;
 use thiserror::Error;
+use xp_core::ReloadFault;
 
 /// Why a script was not replayed to its end.
 #[derive(Clone, Copy, Debug, PartialEq, Eq, Error)]
@@ -10,6 +11,9 @@ pub enum ReplayFault {
     /// The line of this number is not a line of a script. The first line has the number 1.
     #[error("script line {0}")]
     Script(u64),
+    /// The line of the first number brings the subscriptions of the second, and these cannot come into force for this reason.
+    #[error("script line {0}")]
+    Reload(u64, usize, ReloadFault),
     /// The history had fewer than four places left.
     #[error("journal full")]
     Journal,

@@ -1,17 +1,19 @@
 //! Plays the lines of a script.
 
-ghost use Rattle.std.specs.Prelude.{◌≡◌, ◌+◌, ◌<◌, ◌^◌, ℕ, List, [], ◌∷◌, ◌++◌, All, IfErr, IfOk, OnErr, OnOk, length};
+ghost use Rattle.std.specs.Prelude.{◌≡◌, ◌+◌, ◌<◌, ◌^◌, ℕ, List, [], ◌∷◌, ◌++◌, All, IfErr, IfOk, None, OnErr, OnOk, length};
 ghost use Rattle.std.specs.Io.KnownBytes.{Appends};
 ghost use Rattle.xp_step.specs.Exchange.{world_of};
 ghost use Rattle.xp_exchange.specs.FrameEvents.{CanCome, Fits};
-ghost use Rattle.xp_exchange.specs.Play.{Enters, Plays, ReadsLine, RefusesEvent, RefusesLine, event_of, is_off_at, moment_after};
-ghost use Rattle.xp_exchange.specs.steps.Playing.{Played};
-ghost use Rattle.xp_script.specs.Command.{HasLine};
+ghost use Rattle.xp_exchange.specs.Play.{Enters, LineRead, Plays, RefusesEvent, RefusesLine, event_of, is_off_at, moment_after};
+ghost use Rattle.xp_exchange.specs.steps.Playing.{Played, RefusesCommand};
+ghost use Rattle.xp_script.specs.Command.{HasLine, HasTables, reload_of, said};
 ghost use Rattle.xp_script.specs.Lines.{HasLines};
+ghost use Rattle.xp_script.specs.NamedText.{name_at};
 ghost use Rattle.xp_subs.specs.Tables.{line_count};
 
-use crate::acting::{act_on_all, enter};
+use crate::acting::{act_on_all, enter, enter_reload, tell_reload};
 use crate::fault::ReplayFault;
+use crate::reloaded::Reloaded;
 use crate::streams::Streams;
 use std::alloc::{AllocError, Allocator, Global};
 use std::collections::VecDeque;
@@ -19,16 +21,18 @@ use std::io::Write;
 use std::marker::Model;
 use std::mem;
 use xp_core::Core;
-use xp_script::{Command, LineFault};
+use xp_script::{Command, LineFault, NamedTables};
 use xp_step::{Entry, Event, What};
 use xp_subs::{LineNo, Subs};
 
 /// An exchange to which the lines of a script are played.
 #[derive(Drop)]
-pub struct ScriptPlayer<A: Allocator = Global> {
+pub struct ScriptPlayer<'s, 'n, A: Allocator = Global> {
     alloc: A,
     core: Core<A>,
     streams: Streams<A>,
+    /// The subscriptions that lines may bring into force.
+    named: &'s [NamedTables<'n>],
     /// The moment of the events that follow, in seconds.
     moment: u64,
     /// The octets that come in on a line, and later those of a frame that is sent. This vector, the queue and the text
@@ -40,24 +44,29 @@ pub struct ScriptPlayer<A: Allocator = Global> {
     text: Vec<u8, A>,
 }
 
-impl<A: Allocator> Model for ScriptPlayer<A> {
+impl<'s, 'n, A: Allocator> Model for ScriptPlayer<'s, 'n, A> {
     ghost use Rattle.std.specs.Prelude.{◌≡◌, length};
     ghost use Rattle.xp_exchange.specs.Play.{PlayState};
     ghost use Rattle.xp_subs.specs.Tables.{line_count};
 
     ghost Value = { PlayState A };
 
-    ghost view = { λ p. record { exchange = p.core; unfinished = p.streams; moment = p.moment } };
+    ghost view = { λ p. record { exchange = p.core; unfinished = p.streams; moment = p.moment; named = p.named.now } };
 
     ghost invariant = { λ p. length p.streams ≡ line_count p.core.subs };
 }
 
-impl<A: Allocator + Copy> ScriptPlayer<A> {
+impl<'s, 'n, A: Allocator + Copy> ScriptPlayer<'s, 'n, A> {
     ghost use Rattle.xp_exchange.specs.Play.{start};
 
-    /// Begins to play a script to an exchange. Returns the exchange if there is no memory.
-    pub fn new(alloc: A, core: Core<A>) -> Result<ScriptPlayer<A>, Core<A>>
-        ensures ok { IfOk result (λ playing. playing ≡ start core) }
+    /// Begins to play a script to an exchange. Its lines may bring these subscriptions into force. Returns the exchange if
+    /// there is no memory.
+    pub fn new(
+        alloc: A,
+        core: Core<A>,
+        named: &'s [NamedTables<'n>],
+    ) -> Result<ScriptPlayer<'s, 'n, A>, Core<A>>
+        ensures ok { IfOk result (λ playing. playing ≡ start core named.now) }
         ensures err { IfErr result (λ back. back ≡ core) }
     {
         match Streams::new(alloc, core.subs().counts().lines) {
@@ -65,6 +74,7 @@ impl<A: Allocator + Copy> ScriptPlayer<A> {
                 alloc,
                 core,
                 streams,
+                named,
                 moment: 0,
                 octets: Vec::new(alloc),
                 events: VecDeque::new(alloc),
@@ -74,46 +84,59 @@ impl<A: Allocator + Copy> ScriptPlayer<A> {
         }
     }
 
-    /// The subscriptions of the exchange.
+    /// The subscriptions with which the exchange was opened.
     pub fn subs(&self) -> &Subs
         ensures { result.now ≡ self.now.exchange.subs }
     {
         self.core.subs()
     }
 
+    /// The name of the subscriptions with this number, among those that lines may bring into force.
+    pub fn name_of_tables(&self, number: usize) -> &str
+        requires { number < length self.now.named }
+        ensures { result.now ≡ name_at self.now.named number }
+    {
+        name_in(self.named, number)
+    }
+
     /// Returns the exchange.
     pub fn into_core(self) -> Core<A>
-        ensures { result ≡ self.exchange }
+        ensures { result ≡ self.entry.exchange }
     {
         self.core
     }
 
     /// Reads the line of this number, and fills the queue with its events. The exchange acts on none of them yet; it is to
-    /// act on all before the next line is read. What the queue held is lost.
+    /// act on all before the next line is read. What the queue held is lost. Where the line brings subscriptions into force,
+    /// they are in force then, and what came of that is returned; such a line has no other event.
     ///
     /// # Errors
     ///
-    /// `Script`, with the number, if it is not a line of a script; `Memory` if no memory was left. The exchange is as it was.
+    /// `Script`, with the number, if it is not a line of a script; `Reload`, with it, if the subscriptions that it brings
+    /// cannot come into force; `Journal` if fewer than four places of the history are left for that; `Memory` if no memory
+    /// was left. The exchange is as it was.
     pub fn read_line(
         &mut self,
         number: u64,
         line: &[u8],
         events: &mut VecDeque<Event<A>, A>,
-    ) -> Result<(), ReplayFault>
-        ensures read { OnOk result (ReadsLine self.old line.now events.new.items self.new) }
-        ensures fit { OnOk result (All (Fits self.old.exchange.subs) events.new.items) }
-        ensures refused { IfErr result (RefusesLine A self.old.exchange.subs number line.now) }
-        ensures exchange { self.new.exchange ≡ self.old.exchange }
+    ) -> Result<Option<Reloaded<A>>, ReplayFault>
+        ensures read { IfOk result (LineRead self.old line.now events.new.items self.new) }
+        ensures refused { IfErr result (RefusesLine self.old number line.now) }
+        ensures subs { self.new.exchange.subs ≡ self.old.exchange.subs }
     {
         let ScriptPlayer {
             alloc,
             core,
             streams,
+            named,
             moment,
             octets,
             ..
         } = self;
-        read_line(*alloc, core, streams, moment, octets, number, line, events)
+        read_line(
+            *alloc, core, streams, named, moment, octets, number, line, events,
+        )
     }
 
     /// Acts on an event, and returns its entry.
@@ -146,45 +169,86 @@ impl<A: Allocator + Copy> ScriptPlayer<A> {
             alloc,
             core,
             streams,
+            named,
             moment,
             octets,
             events,
             text,
         } = self;
-        read_line(*alloc, core, streams, moment, octets, number, line, events)?;
+        match read_line(
+            *alloc, core, streams, named, moment, octets, number, line, events,
+        )? {
+            Some(reloaded) => return tell_reload(core, &reloaded, octets, text, writer),
+            None => {}
+        }
         act_on_all(core, events, octets, text, writer)
     }
 }
 
-/// Reads the line of this number, and fills the queue with its events. `memory` is for the octets that come in on a line. What it
-/// and the queue held is lost.
+/// Reads the line of this number, and fills the queue with its events, or brings subscriptions into force and returns what came
+/// of that. `memory` is for the octets that come in on a line. What it and the queue held is lost.
 #[inline(always)]
 fn read_line<A: Allocator + Copy>(
     alloc: A,
-    core: &Core<A>,
+    core: &mut Core<A>,
     streams: &mut Streams<A>,
+    named: &[NamedTables<'_>],
     moment: &mut u64,
     memory: &mut Vec<u8, A>,
     number: u64,
     line: &[u8],
     events: &mut VecDeque<Event<A>, A>,
-) -> Result<(), ReplayFault>
-    requires lines { length streams.old ≡ line_count core.now.subs }
-    ensures read { OnOk result (ReadsLine (record { exchange = core.now; unfinished = streams.old; moment = moment.old }) line.now events.new.items (record { exchange = core.now; unfinished = streams.new; moment = moment.new })) }
-    ensures fit { OnOk result (All (Fits core.now.subs) events.new.items) }
-    ensures refused { IfErr result (RefusesLine A core.now.subs number line.now) }
+) -> Result<Option<Reloaded<A>>, ReplayFault>
+    requires lines { length streams.old ≡ line_count core.old.subs }
+    ensures read { IfOk result (LineRead (record { exchange = core.old; unfinished = streams.old; moment = moment.old; named = named.now }) line.now events.new.items (record { exchange = core.new; unfinished = streams.new; moment = moment.new; named = named.now })) }
+    ensures refused { IfErr result (RefusesLine (record { exchange = core.old; unfinished = streams.old; moment = moment.old; named = named.now }) number line.now) }
     ensures lines { length streams.new ≡ length streams.old }
+    ensures same { OnErr result (core.new ≡ core.old) }
+    ensures subs { core.new.subs ≡ core.old.subs }
 {
-    let octets = mem::replace(memory, Vec::new(alloc));
-    let command = match Command::read(core.subs(), line, octets) {
-        Ok(command) => command,
-        Err(LineFault::Faulty) => return Err(ReplayFault::Script(number)),
-        Err(LineFault::Memory) => return Err(ReplayFault::Memory),
-    };
+    let command = read_command(alloc, core.subs(), named, memory, number, line)?;
+    if let Some(tables) = command.reload() {
+        let entry = enter_reload(core, named, tables, *moment, number)?;
+        return Ok(Some(Reloaded {
+            number: tables,
+            entry,
+        }));
+    }
     let next = moment_after(*moment, &command);
     read_events(core, streams, *moment, command, events, memory)?;
     *moment = next;
-    Ok(())
+    Ok(None)
+}
+
+/// Reads the line of this number. The octets that come in stand in the vector that `memory` was.
+#[inline(always)]
+fn read_command<A: Allocator + Copy>(
+    alloc: A,
+    subs: &Subs,
+    named: &[NamedTables<'_>],
+    memory: &mut Vec<u8, A>,
+    number: u64,
+    line: &[u8],
+) -> Result<Command<A>, ReplayFault>
+    ensures said { IfOk result (λ command. said subs.now named.now line.now ≡ Some command) }
+    ensures line { IfOk result (HasLine (line_count subs.now)) }
+    ensures tables { IfOk result (HasTables (length named.now)) }
+    ensures refused { IfErr result (RefusesCommand A subs.now named.now number line.now) }
+{
+    let octets = mem::replace(memory, Vec::new(alloc));
+    match Command::read(subs, named, line, octets) {
+        Ok(command) => Ok(command),
+        Err(LineFault::Faulty) => Err(ReplayFault::Script(number)),
+        Err(LineFault::Memory) => Err(ReplayFault::Memory),
+    }
+}
+
+/// The name of the subscriptions with this number.
+fn name_in<'a>(named: &'a [NamedTables<'_>], number: usize) -> &'a str
+    requires { number < length named.now }
+    ensures { result.now ≡ name_at named.now number }
+{
+    named[number].name()
 }
 
 /// Returns the moment of the events that follow a command.
@@ -197,7 +261,7 @@ fn moment_after<A: Allocator>(before: u64, command: &Command<A>) -> u64
     }
 }
 
-/// Fills the queue with the events of a command at this moment. Puts the vector of its octets back into `memory`.
+/// Fills the queue with the events of a command, which brings no subscriptions into force, at this moment. Puts the vector of its octets back into `memory`.
 #[inline(always)]
 fn read_events<A: Allocator + Copy>(
     core: &Core<A>,
@@ -208,8 +272,9 @@ fn read_events<A: Allocator + Copy>(
     memory: &mut Vec<u8, A>,
 ) -> Result<(), AllocError>
     requires line { HasLine (line_count core.now.subs) command }
+    requires brings_none { reload_of command ≡ None }
     requires lines { length streams.old ≡ line_count core.now.subs }
-    ensures plays { OnOk result (Plays (record { exchange = core.now; unfinished = streams.old; moment = moment }) command events.new.items streams.new) }
+    ensures plays { OnOk result (Plays (record { exchange = core.now; unfinished = streams.old; moment = moment; named = [] }) command events.new.items streams.new) }
     ensures fit { OnOk result (All (λ event. (event.line < line_count core.now.subs) × CanCome event.what) events.new.items) }
     ensures lines { length streams.new ≡ length streams.old }
 {
@@ -218,6 +283,8 @@ fn read_events<A: Allocator + Copy>(
             events.clear();
             return Ok(());
         }
+        // Such a command has no events.
+        Command::Reload(_) => return Err(AllocError),
         Command::Up(line) => {
             if is_off(core, line) {
                 streams.begin(line);

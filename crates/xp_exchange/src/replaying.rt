@@ -13,7 +13,7 @@ use std::alloc::{Allocator, Global};
 use std::io::{ErrorKind, Read, Write};
 use std::marker::Model;
 use xp_core::Core;
-use xp_script::MAX_LINE_OCTETS;
+use xp_script::{MAX_LINE_OCTETS, NamedTables};
 use xp_subs::Subs;
 
 /// After this many reads the replay gives up.
@@ -31,7 +31,8 @@ pub struct Replayed<A: Allocator = Global> {
     pub core: Core<A>,
 }
 
-/// Opens an exchange and replays a script on it, as `replay_on` does.
+/// Opens an exchange and replays a script on it, as `replay_on` does. Lines of the script may bring the named subscriptions
+/// into force.
 ///
 /// # Errors
 ///
@@ -40,19 +41,21 @@ pub struct Replayed<A: Allocator = Global> {
 pub fn replay<A: Allocator + Copy, R: Read + Drop, W: Write>(
     alloc: A,
     subs: Subs,
+    named: &[NamedTables<'_>],
     mut reader: R,
     writer: &mut W,
 ) -> Result<(), ReplayFault>
-    ensures { IfSome (R.remaining reader) (λ script. (text : List ℕ) × Appends (W.contents writer.old) (W.contents writer.new) text × ReplaysAlone A subs script result text) }
+    ensures { IfSome (R.remaining reader) (λ script. (text : List ℕ) × Appends (W.contents writer.old) (W.contents writer.new) text × ReplaysAlone A subs named.now script result text) }
 {
     let core = Core::new(alloc, subs)?;
-    let Replayed { ended, core } = replay_on(alloc, core, &mut reader, writer);
+    let Replayed { ended, core } = replay_on(alloc, core, named, &mut reader, writer);
     drop(core);
     ended
 }
 
 /// Replays a script: plays its lines in turn to an exchange, and writes the text of what the exchange sends and records.
-/// It writes the text of a line before it plays the next.
+/// It writes the text of a line before it plays the next. A line `tables NAME` brings the subscriptions of that name, among
+/// `named`, into force; it sends and records nothing.
 ///
 /// # Errors
 ///
@@ -60,6 +63,8 @@ pub fn replay<A: Allocator + Copy, R: Read + Drop, W: Write>(
 /// What is done and written of the line itself depends on the error:
 ///
 /// - `Script`, with the number of the line: it is not a line of a script. Nothing of it is done or written.
+/// - `Reload`, with the number of the line: the subscriptions that it names cannot come into force now. Nothing of it is
+///   done or written.
 /// - `Read`: the reader failed, or 1,000,000,000 reads did not end the script. Nothing is done or written of the line
 ///   whose end was not read.
 /// - `Journal`: the history has fewer than four places left for the next event of the line. The text of the events
@@ -72,12 +77,13 @@ pub fn replay<A: Allocator + Copy, R: Read + Drop, W: Write>(
 pub fn replay_on<A: Allocator + Copy, R: Read, W: Write>(
     alloc: A,
     core: Core<A>,
+    named: &[NamedTables<'_>],
     reader: &mut R,
     writer: &mut W,
 ) -> Replayed<A>
-    ensures { IfSome (R.remaining reader.old) (λ script. (text : List ℕ) × Appends (W.contents writer.old) (W.contents writer.new) text × Replays core script result.ended (R.remaining reader.new) result.core text) }
+    ensures { IfSome (R.remaining reader.old) (λ script. (text : List ℕ) × Appends (W.contents writer.old) (W.contents writer.new) text × Replays core named.now script result.ended (R.remaining reader.new) result.core text) }
 {
-    match UnfinishedScript::new(alloc, core) {
+    match UnfinishedScript::new(alloc, core, named) {
         Ok(mut script) => {
             let ended = script.read_all(reader, writer);
             let core = script.playing.into_core();
@@ -92,15 +98,15 @@ pub fn replay_on<A: Allocator + Copy, R: Read, W: Write>(
 
 /// A script of which a part was read.
 #[derive(Drop)]
-struct UnfinishedScript<A: Allocator = Global> {
-    playing: ScriptPlayer<A>,
+struct UnfinishedScript<'s, 'n, A: Allocator = Global> {
+    playing: ScriptPlayer<'s, 'n, A>,
     /// The octets that were read of the line that is not over.
     line: Vec<u8, A>,
     /// The number of that line.
     number: u64,
 }
 
-impl<A: Allocator> Model for UnfinishedScript<A> {
+impl<'s, 'n, A: Allocator> Model for UnfinishedScript<'s, 'n, A> {
     ghost use Rattle.std.specs.Prelude.{◌≤◌, length};
     ghost use Rattle.xp_exchange.specs.steps.Replaying.{Progress};
     ghost use Rattle.xp_exchange.specs.Splitting.{HasNoFeed};
@@ -112,14 +118,18 @@ impl<A: Allocator> Model for UnfinishedScript<A> {
     ghost invariant = { λ r. HasNoFeed r.line.items };
 }
 
-impl<A: Allocator + Copy> UnfinishedScript<A> {
+impl<'s, 'n, A: Allocator + Copy> UnfinishedScript<'s, 'n, A> {
     ghost use Rattle.xp_exchange.specs.Play.{start};
 
-    fn new(alloc: A, core: Core<A>) -> Result<UnfinishedScript<A>, Core<A>>
-        ensures ok { IfOk result (λ script. script ≡ record { state = start core; line = []; number = 1 }) }
+    fn new(
+        alloc: A,
+        core: Core<A>,
+        named: &'s [NamedTables<'n>],
+    ) -> Result<UnfinishedScript<'s, 'n, A>, Core<A>>
+        ensures ok { IfOk result (λ script. script ≡ record { state = start core named.now; line = []; number = 1 }) }
         ensures err { IfErr result (λ back. back ≡ core) }
     {
-        let playing = ScriptPlayer::new(alloc, core)?;
+        let playing = ScriptPlayer::new(alloc, core, named)?;
         Ok(UnfinishedScript {
             playing,
             line: Vec::new(alloc),

@@ -59,7 +59,7 @@ fn play<A: Allocator + Copy>(
     name: &str,
 ) -> Core<A> {
     let mut text = Vec::new(alloc);
-    let Replayed { ended, core } = replay_on(alloc, core, &mut lines.as_bytes(), &mut text);
+    let Replayed { ended, core } = replay_on(alloc, core, &[], &mut lines.as_bytes(), &mut text);
     assert_eq!(rt; ended, Ok(()), "{lines}");
     assert!(rt; text.as_slice().starts_with(name.as_bytes()), "{lines}");
     core

@@ -39,7 +39,7 @@ fn replayed<R: Read, W: Write>(
     writer: &mut W,
 ) -> Result<Replayed, Fail> {
     let core = Core::new(alloc, Subs::read(alloc, STATIONS)?)?;
-    Ok(replay_on(alloc, core, reader, writer))
+    Ok(replay_on(alloc, core, &[], reader, writer))
 }
 
 /// Replays the script from a reader that fails once, by this kind and after so many octets. So many lines are to be

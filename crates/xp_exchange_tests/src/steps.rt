@@ -88,13 +88,13 @@ fn played<A: Allocator + Copy>(
     text: &mut Vec<u8, A>,
 ) -> Core<A> {
     let before = shown(&core);
-    let Replayed { ended, core } = replay_on(ample, core, &mut line.as_bytes(), text);
+    let Replayed { ended, core } = replay_on(ample, core, &[], &mut line.as_bytes(), text);
     if ended.is_ok() {
         return core;
     }
     assert_eq!(rt; ended, Err(ReplayFault::Memory), "{line}");
     assert_eq!(rt; shown(&core), before, "{line}");
-    let Replayed { ended, core } = replay_on(ample, core, &mut line.as_bytes(), text);
+    let Replayed { ended, core } = replay_on(ample, core, &[], &mut line.as_bytes(), text);
     assert_eq!(rt; ended, Ok(()), "{line}");
     core
 }

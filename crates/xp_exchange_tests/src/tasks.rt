@@ -41,7 +41,7 @@ fn output_that_is_not_handed_on(rt: HostRuntime) -> Result<(), Fail> {
             room: usize::MAX,
             refusal: Some(Refusal::AtFlush),
         };
-        let ended = perform(alloc, task, subs, script, &mut sheet);
+        let ended = perform(alloc, task, subs, &[], script, &mut sheet);
         let failure = ended.err().ok_or("all was handed on")?;
         assert_eq!(rt; failure.status(), 5);
     }

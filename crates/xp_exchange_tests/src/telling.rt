@@ -20,7 +20,7 @@ fn ending<R: Read + Drop, W: Write>(
     writer: &mut W,
 ) -> Result<Result<(), ReplayFault>, Fail> {
     let subs = Subs::read(alloc, STATIONS)?;
-    Ok(tell(alloc, form, subs, script, writer))
+    Ok(tell(alloc, form, subs, &[], script, writer))
 }
 
 #[test]
@@ -95,8 +95,8 @@ fn wanted_in(
         failing: None,
     };
     let mut lines = KeptLines::new(alloc, source);
-    let ended = replay(alloc, subs, &mut lines, &mut Vec::new(alloc));
-    let wanted = wanted_at(alloc, &names, lines.octets())?;
+    let ended = replay(alloc, subs, &[], &mut lines, &mut Vec::new(alloc));
+    let wanted = wanted_at(alloc, &names, &[], lines.octets())?;
     Ok((ended, wanted))
 }
 

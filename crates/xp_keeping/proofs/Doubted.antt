@@ -5,22 +5,18 @@ use Rattle.xp_cdr.specs.Ledger.{IsUnfinished}
 use Rattle.xp_cdr.specs.declared.run.ExchangeRun.{ExchangeRun}
 use Rattle.xp_keeping.proofs.Flushed.{flushed}
 use Rattle.xp_keeping.specs.Details.{Keeping}
-use Rattle.xp_keeping.specs.Doubt.{AreDoubted, IsToldBy, WritesDoubted}
+use Rattle.xp_keeping.specs.Doubt.{AreDoubted, IsOfRun, WritesDoubted}
 use Rattle.xp_keeping.specs.Printing.{Prints}
 use Rattle.xp_keeping.specs.Queued.{Queued}
 use Rattle.xp_keeping.specs.declared.keep_fault.KeepFault.{KeepFault}
-use Rattle.xp_subs.specs.Tables.{Tables}
 
-module _ (tables : Tables) (run : ExchangeRun) (queued : Queued Keeping) (old new : Option (List ℕ)) (result : Result (Unit {0}) KeepFault) where
+module _ (run : ExchangeRun) (queued : Queued Keeping) (old new : Option (List ℕ)) (result : Result (Unit {0}) KeepFault) where
   -- the thread gave its keeper back
-  pub lacking_written : (keeping : Keeping) (lines : List ℕ) → Some keeping ≡ queued.last → IfSome queued.last (IsToldBy tables run)
-      → IsUnfinished keeping.ledger lines → Prints old new lines result → WritesDoubted tables run queued old new result
+  pub lacking_written : (keeping : Keeping) (lines : List ℕ) → Some keeping ≡ queued.last → IfSome queued.last (IsOfRun run)
+      → IsUnfinished keeping.ledger lines → Prints old new lines result → WritesDoubted run queued old new result
   lacking_written keeping lines is told lacks written =
-      let by : IsToldBy tables run keeping = subst (λ last. IfSome last (IsToldBy tables run)) (sym is) told in
-      let text : lines ≡ flat_map (detail_text tables run) lacks.rest =
-      lacks.lines_are
-      ∙ ap (λ subs. flat_map (detail_text subs keeping.ledger.run) lacks.rest) by.0
-      ∙ ap (λ one. flat_map (detail_text tables one) lacks.rest) by.1 in
+      let by : IsOfRun run keeping = subst (λ last. IfSome last (IsOfRun run)) (sym is) told in
+      let text : lines ≡ flat_map (detail_text run) lacks.rest = lacks.lines_are ∙ ap (λ one. flat_map (detail_text one) lacks.rest) by in
       record {
         records = lacks.rest;
         doubted = subst (λ last. AreDoubted last queued.left lacks.rest) is
@@ -29,7 +25,7 @@ module _ (tables : Tables) (run : ExchangeRun) (queued : Queued Keeping) (old ne
       }
 
   -- the thread was given up
-  pub left_written : queued.last ≡ None → Prints old new (flat_map (detail_text tables run) queued.left) result → WritesDoubted tables run queued old new result
+  pub left_written : queued.last ≡ None → Prints old new (flat_map (detail_text run) queued.left) result → WritesDoubted run queued old new result
   left_written none written = record {
     records = queued.left;
     doubted = subst (λ last. AreDoubted last queued.left queued.left) (sym none) refl;
@@ -37,10 +33,10 @@ module _ (tables : Tables) (run : ExchangeRun) (queued : Queued Keeping) (old ne
   }
 
 -- behind it the output is flushed
-pub doubted_flushed : (tables : Tables) (run : ExchangeRun) (queued : Queued Keeping) (old between new : Option (List ℕ)) (result : Result (Unit {0}) KeepFault)
-    → WritesDoubted tables run queued old between (Ok tt) → Prints between new [] result → WritesDoubted tables run queued old new result
-doubted_flushed tables run queued old between new result writes more = record {
+pub doubted_flushed : (run : ExchangeRun) (queued : Queued Keeping) (old between new : Option (List ℕ)) (result : Result (Unit {0}) KeepFault)
+    → WritesDoubted run queued old between (Ok tt) → Prints between new [] result → WritesDoubted run queued old new result
+doubted_flushed run queued old between new result writes more = record {
   records = writes.records;
   doubted = writes.doubted;
-  written = flushed old between new (flat_map (detail_text tables run) writes.records) result writes.written more;
+  written = flushed old between new (flat_map (detail_text run) writes.records) result writes.written more;
 }

@@ -2,7 +2,7 @@
 use Rattle.std.proofs.Common.{ℕ, List, [], ◌++◌, Option, Result, Ok, Err, subst}
 use Rattle.std.proofs.lemmas.List.{append-nil}
 use Rattle.std.specs.Io.KnownBytes.{Appends}
-use Rattle.xp_exchange.proofs.Bytes.{appends_both}
+use Rattle.xp_writing.proofs.Bytes.{appends_both}
 use Rattle.xp_keeping.proofs.Fronts.{front_after}
 use Rattle.xp_keeping.specs.Printing.{IsFront, Prints}
 

@@ -5,3 +5,4 @@ pub mod Fronts
 mod Printed
 mod QueueLemmas
 mod Sends
+mod ToldLemmas

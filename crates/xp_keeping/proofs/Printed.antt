@@ -2,13 +2,13 @@
 use Rattle.std.proofs.Common.{◌≡◌, ℕ, ◌+◌, ◌≤◌, List, [], ◌++◌, Option, Result, Ok, Err, true, false, ap, append-nil, append_assoc, arith, flat_map, is_ok, length, length-append, refl, subst, sym, ◌∙◌}
 use Rattle.std.proofs.lemmas.Grind.{flat_map-append}
 use Rattle.std.specs.Io.KnownBytes.{Appends}
+use Rattle.xp_cdr.specs.RecordLine.{record_line}
 use Rattle.xp_cdr.specs.declared.ended.EndedCall.{EndedCall}
-use Rattle.xp_exchange.proofs.Bytes.{appends_both, appends_nothing}
+use Rattle.xp_writing.proofs.Bytes.{appends_both, appends_nothing}
 use Rattle.xp_keeping.proofs.Fronts.{front_after}
-use Rattle.xp_keeping.specs.Printing.{HasPrinted, IsFront, IsPrinted, Printer, Prints, printed_text}
+use Rattle.xp_keeping.specs.Printing.{HasPrinted, IsFront, IsPrinted, Printer, Prints}
 use Rattle.xp_keeping.specs.declared.keep_fault.KeepFault.{KeepFault}
 use Rattle.xp_keeping.specs.steps.Printing.{PrintsOn}
-use Rattle.xp_subs.specs.Tables.{Tables}
 
 -- a front of the first of two texts
 front_before : (front first second : List ℕ) → IsFront front first → IsFront front (first ++ second)
@@ -25,12 +25,12 @@ prints_both before between after first second (Err fault) result printed more =
     (printed.0, subst (λ known. Appends before known printed.0) (sym more.0) printed.1, front_before printed.0 first second printed.2)
 
 -- the records that it was given, and then these
-pub printed_more : (subs : Tables) (given records : List EndedCall) (before between after : Option (List ℕ)) (so_far result : Result (Unit {0}) KeepFault)
-    → Prints before between (flat_map (printed_text subs) given) so_far → PrintsOn so_far between after (flat_map (printed_text subs) records) result
-    → Prints before after (flat_map (printed_text subs) (given ++ records)) result
-printed_more subs given records before between after so_far result printed more =
-    subst (λ whole. Prints before after whole result) (sym (flat_map-append (printed_text subs) given records))
-    (prints_both before between after (flat_map (printed_text subs) given) (flat_map (printed_text subs) records) so_far result printed more)
+pub printed_more : (given records : List EndedCall) (before between after : Option (List ℕ)) (so_far result : Result (Unit {0}) KeepFault)
+    → Prints before between (flat_map record_line given) so_far → PrintsOn so_far between after (flat_map record_line records) result
+    → Prints before after (flat_map record_line (given ++ records)) result
+printed_more given records before between after so_far result printed more =
+    subst (λ whole. Prints before after whole result) (sym (flat_map-append record_line given records))
+    (prints_both before between after (flat_map record_line given) (flat_map record_line records) so_far result printed more)
 
 -- what was written
 text_written : (old new : Option (List ℕ)) (whole : List ℕ) (so_far result : Result (Unit {0}) KeepFault) → PrintsOn so_far old new whole result
@@ -40,13 +40,13 @@ text_written old new whole (Ok done) (Err fault) more = (more.0, more.1)
 text_written old new whole (Err fault) result more = ([], subst (λ known. Appends old known []) (sym more.0) (appends_nothing old))
 
 -- what was printed stays so
-printed_still : (subs : Tables) (given records : List EndedCall) (before between after : Option (List ℕ)) (so_far result : Result (Unit {0}) KeepFault) (count : ℕ)
-    → HasPrinted (record { subs = subs; given = given; before = before; contents = between; outcome = so_far }) count
-    → PrintsOn so_far between after (flat_map (printed_text subs) records) result
-    → HasPrinted (record { subs = subs; given = given ++ records; before = before; contents = after; outcome = result }) count
-printed_still subs given records before between after so_far result count has more =
-    let wrote = text_written between after (flat_map (printed_text subs) records) so_far result more in
-    let text = flat_map (printed_text subs) has.kept in
+printed_still : (given records : List EndedCall) (before between after : Option (List ℕ)) (so_far result : Result (Unit {0}) KeepFault) (count : ℕ)
+    → HasPrinted (record { given = given; before = before; contents = between; outcome = so_far }) count
+    → PrintsOn so_far between after (flat_map record_line records) result
+    → HasPrinted (record { given = given ++ records; before = before; contents = after; outcome = result }) count
+printed_still given records before between after so_far result count has more =
+    let wrote = text_written between after (flat_map record_line records) so_far result more in
+    let text = flat_map record_line has.kept in
     record {
       kept = has.kept;
       rest = has.rest ++ records;
@@ -60,7 +60,7 @@ printed_still subs given records before between after so_far result count has mo
 -- all are printed
 printed_all : (printer : Printer) (count : ℕ) → printer.outcome ≡ Ok tt → IsPrinted printer → count ≤ length printer.given → HasPrinted printer count
 printed_all printer count fine printed within =
-    let text = flat_map (printed_text printer.subs) printer.given in
+    let text = flat_map record_line printer.given in
     record {
       kept = printer.given;
       rest = [];
@@ -76,15 +76,15 @@ at_most count next kept rest given records is within more =
     omega (arith, length-append given records, length-append kept rest, ap length is, within, more)
 
 -- more are printed, or a fault is told
-pub printed_on : (subs : Tables) (given records : List EndedCall) (before between after : Option (List ℕ)) (so_far result : Result (Unit {0}) KeepFault) (count next : ℕ)
-    → IsPrinted (record { subs = subs; given = given ++ records; before = before; contents = after; outcome = result })
-    → HasPrinted (record { subs = subs; given = given; before = before; contents = between; outcome = so_far }) count
-    → PrintsOn so_far between after (flat_map (printed_text subs) records) result
+pub printed_on : (given records : List EndedCall) (before between after : Option (List ℕ)) (so_far result : Result (Unit {0}) KeepFault) (count next : ℕ)
+    → IsPrinted (record { given = given ++ records; before = before; contents = after; outcome = result })
+    → HasPrinted (record { given = given; before = before; contents = between; outcome = so_far }) count
+    → PrintsOn so_far between after (flat_map record_line records) result
     → (is_ok result ≡ true → next ≤ count + length records) → (is_ok result ≡ false → next ≡ count)
-    → HasPrinted (record { subs = subs; given = given ++ records; before = before; contents = after; outcome = result }) next
-printed_on subs given records before between after so_far (Ok done) count next printed has writes more same =
-    printed_all (record { subs = subs; given = given ++ records; before = before; contents = after; outcome = Ok done }) next refl printed
+    → HasPrinted (record { given = given ++ records; before = before; contents = after; outcome = result }) next
+printed_on given records before between after so_far (Ok done) count next printed has writes more same =
+    printed_all (record { given = given ++ records; before = before; contents = after; outcome = Ok done }) next refl printed
     (at_most count next has.kept has.rest given records has.given_are has.within (more refl))
-printed_on subs given records before between after so_far (Err fault) count next printed has writes more same =
-    subst (HasPrinted (record { subs = subs; given = given ++ records; before = before; contents = after; outcome = Err fault })) (sym (same refl))
-    (printed_still subs given records before between after so_far (Err fault) count has writes)
+printed_on given records before between after so_far (Err fault) count next printed has writes more same =
+    subst (HasPrinted (record { given = given ++ records; before = before; contents = after; outcome = Err fault })) (sym (same refl))
+    (printed_still given records before between after so_far (Err fault) count has writes)

@@ -15,15 +15,10 @@ use Rattle.xp_keeping.specs.contracts.details.DetailKeeper.TheInside as details
 use Rattle.xp_keeping.specs.contracts.printing.RecordPrinter as RecordPrinter
 use Rattle.xp_keeping.specs.contracts.printing.RecordPrinter.TheInside as printer
 use Rattle.xp_past.proofs.past.Past.TheSendSync as past
-use Rattle.xp_subs.proofs.subs.Subs.TheSendSync as subs
-use Rattle.xp_subs.specs.contracts.subs.Subs as Subs
 
 -- it owns nothing
 snapshot_send : (Y : RattleType) → IsSend (Snapshot.the_row Y)
 snapshot_send Y = record { owned = λ d vs. ((λ vss. (tt, ((λ uss. (tt, tt)), tt))), tt); leaving = λ k f vs. tt }
-
-subs_send : IsSend Subs.the_field.row
-subs_send = subs.the_send
 
 ruleset parts = (sendable, vec.the_send, global.the_frees, snapshot_send, past.the_send)
 
@@ -31,7 +26,7 @@ pub printer_send : (W : RattleType) (write : _) → IsSend W → IsSend (RecordP
 printer_send W write may =
     let T = recorded.declared (printer.struct W write) (printer.the_propositions W.Denot) in
     let all : IsSend (declared.row T) = recorded_send (Struct (declared.shape T)) T.D T.to T.to_one
-    (struct_send (declared.shape T) (subs_send, (may, (search parts depth 20, (search parts depth 20, (search parts depth 20, (snapshot_send W, (past.the_send _, tt)))))))) in
+    (struct_send (declared.shape T) (may, (search parts depth 20, (search parts depth 20, (search parts depth 20, (snapshot_send W, (past.the_send _, tt))))))) in
     record { owned = λ d vs x. (all.owned x.0 vs, tt); leaving = λ k d w. tt }
 
 pub details_send : (F L : RattleType) (file : _) (log : _) → IsSend F → IsSend L → IsSend (DetailKeeper.the_row F L file log)
@@ -39,15 +34,12 @@ details_send F L file log file_may log_may =
     let T = recorded.declared (details.struct F L file log) (details.the_propositions F.Denot L.Denot) in
     let all : IsSend (declared.row T) = recorded_send (Struct (declared.shape T)) T.D T.to T.to_one
     (struct_send (declared.shape T) (
-      subs_send,
+      search (writer.the_send) depth 9,
       (
-        search (writer.the_send) depth 9,
+        search (sendable, clock.the_field_send) depth 9,
         (
-          search (sendable, clock.the_field_send) depth 9,
-          (
-            search (sendable, operator.the_field_send) depth 9,
-            (search parts depth 20, (search parts depth 20, (search parts depth 20, (search parts depth 20, (past.the_send _, tt))))),
-          ),
+          search (sendable, operator.the_field_send) depth 9,
+          (search parts depth 20, (search parts depth 20, (search parts depth 20, (search parts depth 20, (past.the_send _, tt))))),
         ),
       ),
     )) in

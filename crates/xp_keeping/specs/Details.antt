@@ -5,12 +5,9 @@ use Rattle.xp_cdr.specs.declared.ended.EndedCall.{EndedCall}
 use Rattle.xp_cdr.specs.declared.run.ExchangeRun.{ExchangeRun}
 use Rattle.xp_keeping.specs.declared.keep_fault.KeepFault.{KeepFault}
 use Rattle.xp_keeping.specs.declared.keep_fault.KeepFault.TheVariants.{Memory, Output, Details}
-use Rattle.xp_subs.specs.Tables.{Tables}
 
 -- a keeper of call detail records
 pub record Keeping : Type 0 where
-  -- the subscriptions that name the lines
-  pub subs : Tables
   -- all calls that it was given
   pub given : List EndedCall
   -- those of them that were given to the writer of the file, and what the file has taken
@@ -19,8 +16,8 @@ pub record Keeping : Type 0 where
   pub is_short : Bool
 
 -- a keeper that was given no record yet, of this run
-abbrev pub first_keeping : Tables → ExchangeRun → Keeping
-first_keeping tables run = record { subs = tables; given = []; ledger = opening tables run; is_short = false }
+abbrev pub first_keeping : ExchangeRun → Keeping
+first_keeping run = record { given = []; ledger = opening run; is_short = false }
 
 -- a front of these records
 abbrev pub IsFirstOf : List EndedCall → List EndedCall → Type 0
@@ -43,6 +40,6 @@ pub record HasKept (keeping : Keeping) (count : ℕ) : Type 0 where
   pub within : count ≤ length kept
   pub synced_is : keeping.ledger.synced ≡ details_text keeping.ledger kept
 
--- what stays the same of a keeper
+-- what stays the same of a keeper: its records are of the same run
 abbrev pub GoesOnAs : Keeping → Keeping → Type 0
-GoesOnAs old new = (new.subs ≡ old.subs) × (new.ledger.subs ≡ old.ledger.subs) × (new.ledger.run ≡ old.ledger.run)
+GoesOnAs old new = new.ledger.run ≡ old.ledger.run

@@ -8,7 +8,6 @@ use Rattle.xp_keeping.specs.Details.{Keeping}
 use Rattle.xp_keeping.specs.Printing.{Prints}
 use Rattle.xp_keeping.specs.Queued.{Queued}
 use Rattle.xp_keeping.specs.declared.keep_fault.KeepFault.{KeepFault}
-use Rattle.xp_subs.specs.Tables.{Tables}
 
 -- These are the records that were given last. The file has the call detail records of those before them on the disk, and nothing of
 -- these.
@@ -23,13 +22,13 @@ abbrev pub AreDoubted : Option Keeping → List EndedCall → List EndedCall →
 AreDoubted None left records = records ≡ left
 AreDoubted (Some keeping) left records = AreLacking keeping.ledger records
 
--- the keeper tells call detail records by these subscriptions, of this run
-abbrev pub IsToldBy : Tables → ExchangeRun → Keeping → Type 0
-IsToldBy tables run keeping = (keeping.ledger.subs ≡ tables) × (keeping.ledger.run ≡ run)
+-- the keeper tells call detail records of this run
+abbrev pub IsOfRun : ExchangeRun → Keeping → Type 0
+IsOfRun run keeping = keeping.ledger.run ≡ run
 
 -- The call detail records of the records in doubt are written, each once and in order, and nothing else: all of them, or a front of
 -- their text where memory was wanting or the writer failed.
-pub record WritesDoubted (tables : Tables) (run : ExchangeRun) (queued : Queued Keeping) (old new : Option (List ℕ)) (result : Result (Unit {0}) KeepFault) : Type 0 where
+pub record WritesDoubted (run : ExchangeRun) (queued : Queued Keeping) (old new : Option (List ℕ)) (result : Result (Unit {0}) KeepFault) : Type 0 where
   pub records : List EndedCall
   pub doubted : AreDoubted queued.last queued.left records
-  pub written : Prints old new (flat_map (detail_text tables run) records) result
+  pub written : Prints old new (flat_map (detail_text run) records) result

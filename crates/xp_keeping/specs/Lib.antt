@@ -3,4 +3,5 @@ pub mod Doubt
 pub mod Kept
 pub mod Printing
 pub mod Queued
+pub mod Told
 pub mod steps

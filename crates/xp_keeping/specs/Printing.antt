@@ -1,10 +1,9 @@
 -- What is written of charging records that are printed (`IsPrinted`).
 use Rattle.std.specs.Prelude.{◌≡◌, ℕ, ◌≤◌, List, ◌++◌, flat_map, length, Option, Result, Ok, Err}
 use Rattle.std.specs.Io.KnownBytes.{Appends}
-use Rattle.xp_charge.specs.Text.{record_text}
+use Rattle.xp_cdr.specs.RecordLine.{record_line}
 use Rattle.xp_cdr.specs.declared.ended.EndedCall.{EndedCall}
 use Rattle.xp_keeping.specs.declared.keep_fault.KeepFault.{KeepFault}
-use Rattle.xp_subs.specs.Tables.{Tables}
 
 abbrev pub IsFront : List ℕ → List ℕ → Type 0
 IsFront text whole = (rest : List ℕ) × (whole ≡ text ++ rest)
@@ -18,14 +17,8 @@ abbrev pub Prints : {F : Type 0} → Option (List ℕ) → Option (List ℕ) →
 Prints old new whole (Ok done) = Appends old new whole
 Prints old new whole (Err fault) = AppendsFront old new whole
 
--- what is printed of a call: the line of its charging record
-abbrev pub printed_text : Tables → EndedCall → List ℕ
-printed_text tables call = record_text tables call.charging
-
 -- a printer of charging records
 pub record Printer : Type 0 where
-  -- the subscriptions that name the lines
-  pub subs : Tables
   -- all records that it was given
   pub given : List EndedCall
   -- what the writer held before the first of them, and what it holds now
@@ -36,7 +29,7 @@ pub record Printer : Type 0 where
 
 -- The text of all records that the printer was given is written, or a front of it.
 abbrev pub IsPrinted : Printer → Type 0
-IsPrinted printer = Prints printer.before printer.contents (flat_map (printed_text printer.subs) printer.given) printer.outcome
+IsPrinted printer = Prints printer.before printer.contents (flat_map record_line printer.given) printer.outcome
 
 -- The text of the first so many records is written, perhaps of more.
 pub record HasPrinted (printer : Printer) (count : ℕ) : Type 0 where
@@ -45,4 +38,4 @@ pub record HasPrinted (printer : Printer) (count : ℕ) : Type 0 where
   pub given_are : printer.given ≡ kept ++ rest
   pub within : count ≤ length kept
   pub more : List ℕ
-  pub written : Appends printer.before printer.contents (flat_map (printed_text printer.subs) kept ++ more)
+  pub written : Appends printer.before printer.contents (flat_map record_line kept ++ more)

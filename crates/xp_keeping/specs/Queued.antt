@@ -1,12 +1,13 @@
 -- What is kept of charging records by a keeper on a thread of its own (`AreKeptBeside`).
-use Rattle.std.specs.Prelude.{◌≡◌, List, [], ◌++◌, Bool, true, false, Option, None, Some, Result, Err}
+use Rattle.std.specs.Prelude.{◌≡◌, List, [], ◌∷◌, ◌++◌, Bool, true, false, Option, None, Some, Result, Err}
 use Rattle.xp_cdr.specs.declared.ended.EndedBy.{EndedBy}
 use Rattle.xp_cdr.specs.declared.ended.EndedBy.TheVariants.{Call}
 use Rattle.xp_cdr.specs.declared.ended.EndedCall.{EndedCall}
 use Rattle.xp_keeping.specs.Details.{IsFirstOf}
 use Rattle.xp_keeping.specs.declared.keep_fault.KeepFault.{KeepFault}
 use Rattle.xp_keeping.specs.declared.keep_fault.KeepFault.TheVariants.{Memory}
-use Rattle.xp_subs.specs.Tables.{Tables}
+use Rattle.xp_keeping.specs.Told.{AreToldInTurn}
+use Rattle.xp_subs.specs.Tables.{Tables, line_count}
 
 -- the end of a list of records
 abbrev pub IsLastOf : List EndedCall → List EndedCall → Type 0
@@ -14,7 +15,10 @@ IsLastOf end records = (front : List EndedCall) × (records ≡ front ++ end)
 
 -- a keeper on a thread of its own
 pub record Queued (K : Type 0) : Type 0 where
-  -- the subscriptions that name the lines
+  -- the subscriptions with which it began; all by which it was to tell calls so far, in order; and the last of these, by which it tells
+  -- those that follow
+  pub opening : Tables
+  pub named : List Tables
   pub subs : Tables
   -- all calls that were handed to it, each with by what it ended, and by what those end that follow
   pub given : List EndedCall
@@ -31,12 +35,27 @@ pub record Queued (K : Type 0) : Type 0 where
 
 -- a keeper whose thread has just begun
 abbrev pub first_queued : {K : Type 0} → Tables → K → KeepFault → Queued K
-first_queued tables keeper fault =
-    record { subs = tables; given = []; ended_by = Call; is_short = false; first = keeper; last = None; left = []; fault = fault }
+first_queued tables keeper fault = record {
+  opening = tables;
+  named = tables ∷ [];
+  subs = tables;
+  given = [];
+  ended_by = Call;
+  is_short = false;
+  first = keeper;
+  last = None;
+  left = [];
+  fault = fault;
+}
 
--- what stays the same of a keeper on a thread of its own
-abbrev pub KeepsBeside : {K : Type 0} → Queued K → Queued K → Type 0
-KeepsBeside old new = (new.subs ≡ old.subs) × (new.first ≡ old.first) × (new.fault ≡ old.fault)
+-- what stays the same of a keeper on a thread of its own, also where it is to tell calls by other subscriptions
+pub record KeepsBeside {K : Type 0} (old new : Queued K) : Type 0 where
+  pub opening : new.opening ≡ old.opening
+  pub later : List Tables
+  pub named : new.named ≡ old.named ++ later
+  pub lines : line_count new.subs ≡ line_count old.subs
+  pub first : new.first ≡ old.first
+  pub fault : new.fault ≡ old.fault
 
 -- what is told once this came of keeping what went to the thread
 abbrev pub told : Bool → Result (Unit {0}) KeepFault → Result (Unit {0}) KeepFault
@@ -68,6 +87,7 @@ module _ {K : Type 0} (kept : K → List EndedCall → Result (Unit {0}) KeepFau
   AreKeptOrLeft None queued records result = AreLeft queued records result
   AreKeptOrLeft (Some keeper) queued records result = AreKeptBy queued records result keeper
 
-  -- What is kept of all records of a run.
-  abbrev pub AreKeptBeside : Queued K → List EndedCall → Result (Unit {0}) KeepFault → Type 0
-  AreKeptBeside queued records result = AreKeptOrLeft queued.last queued records result
+  -- By what all records of a run are told, and what is kept of them.
+  pub record AreKeptBeside (queued : Queued K) (records : List EndedCall) (result : Result (Unit {0}) KeepFault) : Type 0 where
+    pub in_turn : AreToldInTurn queued.named records
+    pub kept_is : AreKeptOrLeft queued.last queued records result

@@ -3,4 +3,5 @@ pub mod Details
 pub mod Printing
 pub mod Queue
 pub mod Queued
+pub mod Telling
 pub mod Thread

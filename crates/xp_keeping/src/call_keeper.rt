@@ -1,7 +1,6 @@
 //! Keeping the calls of a run, with nothing else to do.
 
-ghost use Rattle.std.specs.Prelude.{◌≡◌, ◌≤◌, ◌+◌, ◌++◌, All, false, length, true};
-ghost use Rattle.xp_charge.specs.Lines.{HasLines};
+ghost use Rattle.std.specs.Prelude.{◌≡◌, ◌≤◌, ◌+◌, ◌++◌, false, length, true};
 
 use crate::keep_fault::KeepFault;
 use xp_cdr::EndedCall;
@@ -16,9 +15,6 @@ pub trait CallKeeper: Drop {
     // All calls that the keeper was given so far.
     ghost given: { Self → List EndedCall };
 
-    // How many lines there are. Each record names lines with lower numbers.
-    ghost lines: { Self → ℕ };
-
     // What stays the same of a keeper from one moment to a later one.
     ghost keeps: { Self → Self → Type 0 };
 
@@ -30,15 +26,12 @@ pub trait CallKeeper: Drop {
 
     /// Takes these calls, which follow those that it was given before.
     fn keep(&mut self, calls: Vec<EndedCall>) -> Received
-        requires lines { All (λ call. HasLines (lines self.old) call.charging) calls.items }
         ensures given { given self.new ≡ given self.old ++ calls.items }
-        ensures lines { lines self.new ≡ lines self.old }
         ensures keeps { keeps self.old self.new };
 
     /// Called at least ten times a second while no calls come. It may write what waits, and may ask for a stop.
     fn tick(&mut self) -> Received
         ensures given { given self.new ≡ given self.old }
-        ensures lines { lines self.new ≡ lines self.old }
         ensures keeps { keeps self.old self.new };
 
     /// Keeps what waits, as no further call comes.

@@ -1,11 +1,9 @@
 //! Keeping call detail records in a file, each as its call ends.
 
-ghost use Rattle.std.specs.Prelude.{◌≡◌, ◌++◌, [], All};
+ghost use Rattle.std.specs.Prelude.{◌≡◌, ◌++◌, []};
 ghost use Rattle.xp_cdr.specs.Ledger.{IsUnfinished};
-ghost use Rattle.xp_charge.specs.Lines.{HasLines};
 ghost use Rattle.xp_keeping.specs.Details.{AreKept, GoesOnAs, first_keeping};
 ghost use Rattle.xp_keeping.specs.steps.Details.{Gives, PutsOnDisk};
-ghost use Rattle.xp_subs.specs.Tables.{line_count};
 
 use crate::call_keeper::{CallKeeper, count_on};
 use crate::keep_fault::KeepFault;
@@ -17,7 +15,6 @@ use xp_cdr::{DetailWriter, EndedCall, ExchangeRun, FlushFault, OpenFault, Place,
 use xp_clock::WallClock;
 use xp_past::Past;
 use xp_sink::Received;
-use xp_subs::Subs;
 
 /// With so many call detail records that the file has not taken, serving stops.
 const MOST_WAITING: usize = 100_000;
@@ -34,8 +31,6 @@ const SECONDS_TO_BEGIN: u64 = 5;
 /// memory was wanting, it takes no more records. It has no other output than the file and the log.
 #[derive(Drop)]
 pub struct DetailKeeper<F: RecordFile, L: Log> {
-    /// The subscriptions, from which the lines have their names and addresses.
-    subs: Subs,
     writer: DetailWriter<F>,
     clock: WallClock,
     log: OperatorLog<L>,
@@ -58,9 +53,9 @@ impl<F: RecordFile, L: Log> Model for DetailKeeper<F, L> {
 
     ghost Value = { Keeping };
 
-    ghost view = { λ k. record { subs = k.subs; given = k.given.items; ledger = k.writer; is_short = k.is_short } };
+    ghost view = { λ k. record { given = k.given.items; ledger = k.writer; is_short = k.is_short } };
 
-    ghost invariant = { λ k. IsGivenAs (record { subs = k.subs; given = k.given.items; ledger = k.writer; is_short = k.is_short }) × (k.count ≤ length k.writer.given) };
+    ghost invariant = { λ k. IsGivenAs (record { given = k.given.items; ledger = k.writer; is_short = k.is_short }) × (k.count ≤ length k.writer.given) };
 }
 
 impl<F: RecordFile, L: Log> DetailKeeper<F, L> {
@@ -68,7 +63,6 @@ impl<F: RecordFile, L: Log> DetailKeeper<F, L> {
     pub fn new(
         alloc: Global,
         file: F,
-        subs: Subs,
         run: ExchangeRun,
         clock: WallClock,
         log: OperatorLog<L>,
@@ -77,11 +71,10 @@ impl<F: RecordFile, L: Log> DetailKeeper<F, L> {
         requires synced { F.synced file ≡ [] }
         requires before { (F.current file).before ≡ [] }
         requires failures { F.failures file ≡ 0 }
-        ensures { result ≡ first_keeping subs run }
+        ensures { result ≡ first_keeping run }
     {
         DetailKeeper {
-            writer: DetailWriter::new(alloc, file, &subs, run),
-            subs,
+            writer: DetailWriter::new(alloc, file, run),
             clock,
             log,
             retry_at: None,
@@ -102,12 +95,11 @@ impl<F: RecordFile, L: Log> DetailKeeper<F, L> {
 
     /// Gives further calls to the writer of the file, unless memory was wanting before.
     fn give(&mut self, calls: &[EndedCall])
-        requires { All (λ call. HasLines (line_count self.old.subs) call.charging) calls.now }
         ensures given { self.new.given ≡ self.old.given ++ calls.now }
         ensures keeps { GoesOnAs self.old self.new }
     {
         let was_short = self.is_short;
-        self.is_short = give_more(was_short, &mut self.writer, &self.subs, calls);
+        self.is_short = give_more(was_short, &mut self.writer, calls);
         self.given.extend(calls);
         self.count = count_on(self.count, calls, !self.is_short);
         if self.is_short && !was_short {
@@ -254,17 +246,14 @@ impl<F: RecordFile, L: Log> DetailKeeper<F, L> {
 fn give_more<F: RecordFile>(
     is_short: bool,
     writer: &mut DetailWriter<F>,
-    subs: &Subs,
     calls: &[EndedCall],
 ) -> bool
-    requires subs { subs.now ≡ writer.old.subs }
-    requires lines { All (λ call. HasLines (line_count subs.now) call.charging) calls.now }
     ensures { Gives is_short writer.old calls.now result writer.new }
 {
     if is_short {
         return true;
     }
-    writer.give(subs, calls).is_err()
+    writer.give(calls).is_err()
 }
 
 /// Puts what waits on the disk. Returns whether nothing waits any more.
@@ -285,11 +274,8 @@ impl<F: RecordFile, L: Log + Drop> CallKeeper for DetailKeeper<F, L> {
     ghost use Rattle.std.specs.Prelude.{◌≡◌};
     ghost use Rattle.std.proofs.Common.{refl, ◌∙◌};
     ghost use Rattle.xp_keeping.specs.Details.{AreKept, GoesOnAs, HasKept};
-    ghost use Rattle.xp_subs.specs.Tables.{line_count};
 
     ghost given = { λ k. k.given };
-
-    ghost lines = { λ k. line_count k.subs };
 
     ghost keeps = { GoesOnAs };
 
@@ -318,7 +304,7 @@ impl<F: RecordFile, L: Log + Drop> CallKeeper for DetailKeeper<F, L> {
         self.count.saturating_sub(self.writer.waiting_records())
     }
 
-    ghost keeps_itself = { λ k. (refl, refl, refl) };
+    ghost keeps_itself = { λ k. refl };
 
-    ghost keeps_on = { λ k l m first second. (second.0 ∙ first.0, second.1 ∙ first.1, second.2 ∙ first.2) };
+    ghost keeps_on = { λ k l m first second. second ∙ first };
 }

@@ -1,7 +1,7 @@
 //! Writing the records in doubt, as a run ends whose records go to a file.
 
 ghost use Rattle.std.specs.Prelude.{[], IfSome};
-ghost use Rattle.xp_keeping.specs.Doubt.{IsToldBy, WritesDoubted};
+ghost use Rattle.xp_keeping.specs.Doubt.{IsOfRun, WritesDoubted};
 ghost use Rattle.xp_keeping.specs.Printing.{Prints};
 
 use crate::details::DetailKeeper;
@@ -14,25 +14,23 @@ use std::io::Write;
 use std::sync::Wait;
 use std::thread::Threads;
 use xp_cdr::{ExchangeRun, RecordFile};
-use xp_exchange::write_out;
-use xp_subs::Subs;
+use xp_writing::write_out;
 
 /// Writes the call detail records of the records in doubt on the output, of this run, and flushes the output. The thread of the keeper writes nothing there, also where it was given up and goes on.
 ///
 /// # Errors
 ///
-/// `Memory`, `Output`, or `Details` where a record names a line that there is not. Then a front of them is written.
+/// `Memory` or `Output`. Then a front of them is written.
 pub fn write_doubted<F: RecordFile, L: Log + Drop, R: Threads + Wait + Copy, W: Write>(
     alloc: Global,
-    subs: &Subs,
     run: &ExchangeRun,
     keeper: &QueuedKeeper<DetailKeeper<F, L>, R>,
     output: &mut W,
 ) -> Result<(), KeepFault>
-    requires { IfSome keeper.now.last (IsToldBy subs.now run.now) }
-    ensures { WritesDoubted subs.now run.now keeper.now (W.contents output.old) (W.contents output.new) result }
+    requires { IfSome keeper.now.last (IsOfRun run.now) }
+    ensures { WritesDoubted run.now keeper.now (W.contents output.old) (W.contents output.new) result }
 {
-    match write_unflushed(alloc, subs, run, keeper, output) {
+    match write_unflushed(alloc, run, keeper, output) {
         Ok(()) => flush(output),
         Err(fault) => Err(fault),
     }
@@ -41,17 +39,16 @@ pub fn write_doubted<F: RecordFile, L: Log + Drop, R: Threads + Wait + Copy, W: 
 /// Writes the call detail records of the records in doubt.
 fn write_unflushed<F: RecordFile, L: Log + Drop, R: Threads + Wait + Copy, W: Write>(
     alloc: Global,
-    subs: &Subs,
     run: &ExchangeRun,
     keeper: &QueuedKeeper<DetailKeeper<F, L>, R>,
     output: &mut W,
 ) -> Result<(), KeepFault>
-    requires { IfSome keeper.now.last (IsToldBy subs.now run.now) }
-    ensures { WritesDoubted subs.now run.now keeper.now (W.contents output.old) (W.contents output.new) result }
+    requires { IfSome keeper.now.last (IsOfRun run.now) }
+    ensures { WritesDoubted run.now keeper.now (W.contents output.old) (W.contents output.new) result }
 {
     match keeper.last() {
         Some(last) => write_lines(last.unfinished_lines(), output),
-        None => write_left(alloc, subs, run, keeper.left(), output),
+        None => write_left(alloc, run, keeper.left(), output),
     }
 }
 

@@ -2,52 +2,46 @@
 
 ghost use Rattle.std.specs.Prelude.{◌≡◌, flat_map};
 ghost use Rattle.xp_cdr.specs.Details.{detail_text};
-ghost use Rattle.xp_charge.specs.Lines.{HasLines};
 ghost use Rattle.xp_keeping.specs.Printing.{Prints};
 ghost use Rattle.xp_keeping.specs.steps.Printing.{PrintsOn};
-ghost use Rattle.xp_subs.specs.Tables.{line_count};
 
 use crate::keep_fault::KeepFault;
-use crate::record_thread::has_lines;
 use std::alloc::Global;
 use std::collections::VecDeque;
 use std::io::Write;
 use xp_cdr::{EndedCall, ExchangeRun, write_detail};
-use xp_exchange::write_out;
-use xp_subs::Subs;
+use xp_writing::write_out;
 
 /// Writes the call detail records of these calls, in order, of this run.
 ///
 /// # Errors
 ///
-/// `Memory`, `Output`, or `Details` where a record names a line that there is not. Then a front of them is written.
+/// `Memory` or `Output`. Then a front of them is written.
 pub(crate) fn write_left<W: Write>(
     alloc: Global,
-    subs: &Subs,
     run: &ExchangeRun,
     left: &VecDeque<EndedCall>,
     output: &mut W,
 ) -> Result<(), KeepFault>
-    ensures { Prints (W.contents output.old) (W.contents output.new) (flat_map (detail_text subs.now run.now) left.now.items) result }
+    ensures { Prints (W.contents output.old) (W.contents output.new) (flat_map (detail_text run.now) left.now.items) result }
 {
     let (first, second) = left.as_slices();
-    let so_far = write_slice(alloc, subs, run, first, output);
-    write_on(so_far, alloc, subs, run, second, output)
+    let so_far = write_slice(alloc, run, first, output);
+    write_on(so_far, alloc, run, second, output)
 }
 
 /// Writes the call detail records of these calls, unless there was a fault before.
 fn write_on<W: Write>(
     before: Result<(), KeepFault>,
     alloc: Global,
-    subs: &Subs,
     run: &ExchangeRun,
     left: &[EndedCall],
     output: &mut W,
 ) -> Result<(), KeepFault>
-    ensures { PrintsOn before (W.contents output.old) (W.contents output.new) (flat_map (detail_text subs.now run.now) left.now) result }
+    ensures { PrintsOn before (W.contents output.old) (W.contents output.new) (flat_map (detail_text run.now) left.now) result }
 {
     match before {
-        Ok(()) => write_slice(alloc, subs, run, left, output),
+        Ok(()) => write_slice(alloc, run, left, output),
         Err(fault) => Err(fault),
     }
 }
@@ -55,15 +49,14 @@ fn write_on<W: Write>(
 /// Writes the call detail records of these calls.
 fn write_slice<W: Write>(
     alloc: Global,
-    subs: &Subs,
     run: &ExchangeRun,
     left: &[EndedCall],
     output: &mut W,
 ) -> Result<(), KeepFault>
-    ensures { Prints (W.contents output.old) (W.contents output.new) (flat_map (detail_text subs.now run.now) left.now) result }
+    ensures { Prints (W.contents output.old) (W.contents output.new) (flat_map (detail_text run.now) left.now) result }
 {
     for call in left {
-        write_one(alloc, subs, run, call, output)?;
+        write_one(alloc, run, call, output)?;
     }
     Ok(())
 }
@@ -71,18 +64,14 @@ fn write_slice<W: Write>(
 /// Writes the call detail record of this call.
 fn write_one<W: Write>(
     alloc: Global,
-    subs: &Subs,
     run: &ExchangeRun,
     call: &EndedCall,
     output: &mut W,
 ) -> Result<(), KeepFault>
-    ensures { Prints (W.contents output.old) (W.contents output.new) (detail_text subs.now run.now call.now) result }
+    ensures { Prints (W.contents output.old) (W.contents output.new) (detail_text run.now call.now) result }
 {
-    if !has_lines(subs.counts().lines, &call.charging) {
-        return Err(KeepFault::Details);
-    }
     let mut text = Vec::new(alloc);
-    write_detail(alloc, subs, run, call, &mut text)?;
+    write_detail(alloc, run, call, &mut text)?;
     match write_out(output, &text) {
         Ok(()) => Ok(()),
         Err(_) => Err(KeepFault::Output),

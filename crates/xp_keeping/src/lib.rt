@@ -15,6 +15,7 @@ mod record_queue;
 mod record_thread;
 mod signal;
 mod starting;
+mod telling;
 
 pub use call_keeper::CallKeeper;
 pub use details::DetailKeeper;

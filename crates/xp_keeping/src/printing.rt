@@ -1,11 +1,9 @@
 //! Printing charging records, each as its call ends.
 
-ghost use Rattle.std.specs.Prelude.{◌≡◌, ◌++◌, [], All, Ok, flat_map};
-ghost use Rattle.xp_charge.specs.Lines.{HasLines};
-ghost use Rattle.xp_charge.specs.Text.{record_text};
-ghost use Rattle.xp_keeping.specs.Printing.{IsPrinted, Prints, printed_text};
+ghost use Rattle.std.specs.Prelude.{◌≡◌, ◌++◌, [], Ok, flat_map};
+ghost use Rattle.xp_cdr.specs.RecordLine.{record_line};
+ghost use Rattle.xp_keeping.specs.Printing.{IsPrinted, Prints};
 ghost use Rattle.xp_keeping.specs.steps.Printing.{PrintsOn};
-ghost use Rattle.xp_subs.specs.Tables.{line_count};
 
 use crate::call_keeper::{CallKeeper, count_on};
 use crate::keep_fault::KeepFault;
@@ -13,18 +11,14 @@ use std::alloc::Global;
 use std::io::Write;
 use std::marker::Model;
 use std::snapshot::Snapshot;
-use xp_cdr::EndedCall;
-use xp_charge::Record;
-use xp_exchange::write_out;
+use xp_cdr::{EndedCall, write_record};
 use xp_past::Past;
 use xp_sink::Received;
-use xp_subs::Subs;
+use xp_writing::write_out;
 
 /// Writes charging records, each as one line. Once memory was wanting or the writer failed, it writes nothing more.
 #[derive(Drop)]
 pub struct RecordPrinter<W: Write> {
-    /// The subscriptions, from which the lines have their names.
-    subs: Subs,
     writer: W,
     /// The room for the text of a record.
     text: Vec<u8>,
@@ -43,18 +37,17 @@ impl<W: Write> Model for RecordPrinter<W> {
 
     ghost Value = { Printer };
 
-    ghost view = { λ p. record { subs = p.subs; given = p.given.items; before = W.contents p.first.value; contents = W.contents p.writer; outcome = p.outcome } };
+    ghost view = { λ p. record { given = p.given.items; before = W.contents p.first.value; contents = W.contents p.writer; outcome = p.outcome } };
 
-    ghost invariant = { λ p. IsPrinted (record { subs = p.subs; given = p.given.items; before = W.contents p.first.value; contents = W.contents p.writer; outcome = p.outcome }) × HasPrinted (record { subs = p.subs; given = p.given.items; before = W.contents p.first.value; contents = W.contents p.writer; outcome = p.outcome }) p.count };
+    ghost invariant = { λ p. IsPrinted (record { given = p.given.items; before = W.contents p.first.value; contents = W.contents p.writer; outcome = p.outcome }) × HasPrinted (record { given = p.given.items; before = W.contents p.first.value; contents = W.contents p.writer; outcome = p.outcome }) p.count };
 }
 
 impl<W: Write> RecordPrinter<W> {
-    /// The printer that writes on this writer. The lines have their names from the subscriptions.
-    pub fn new(alloc: Global, subs: Subs, writer: W) -> RecordPrinter<W>
-        ensures { result ≡ record { subs = subs; given = []; before = W.contents writer; contents = W.contents writer; outcome = Ok tt } }
+    /// The printer that writes on this writer.
+    pub fn new(alloc: Global, writer: W) -> RecordPrinter<W>
+        ensures { result ≡ record { given = []; before = W.contents writer; contents = W.contents writer; outcome = Ok tt } }
     {
         RecordPrinter {
-            subs,
             text: Vec::new(alloc),
             outcome: Ok(()),
             count: 0,
@@ -66,18 +59,10 @@ impl<W: Write> RecordPrinter<W> {
 
     /// Writes the records of further calls, and flushes the writer.
     pub fn print(&mut self, calls: &[EndedCall])
-        requires { All (λ call. HasLines (line_count self.old.subs) call.charging) calls.now }
         ensures given { self.new.given ≡ self.old.given ++ calls.now }
-        ensures subs { self.new.subs ≡ self.old.subs }
         ensures before { self.new.before ≡ self.old.before }
     {
-        self.outcome = print_more(
-            self.outcome,
-            &self.subs,
-            calls,
-            &mut self.text,
-            &mut self.writer,
-        );
+        self.outcome = print_more(self.outcome, calls, &mut self.text, &mut self.writer);
         self.given.extend(calls);
         self.count = count_on(self.count, calls, self.outcome.is_ok());
     }
@@ -99,7 +84,6 @@ impl<W: Write> RecordPrinter<W> {
         ensures { W.contents result ≡ self.contents }
     {
         let RecordPrinter {
-            subs: _,
             writer,
             text: _,
             outcome: _,
@@ -114,16 +98,14 @@ impl<W: Write> RecordPrinter<W> {
 impl<W: Write + Drop> CallKeeper for RecordPrinter<W> {
     ghost use Rattle.std.specs.Prelude.{◌≡◌, flat_map};
     ghost use Rattle.std.proofs.Common.{refl, ◌∙◌};
-    ghost use Rattle.xp_keeping.specs.Printing.{HasPrinted, Prints, printed_text};
-    ghost use Rattle.xp_subs.specs.Tables.{line_count};
+    ghost use Rattle.xp_cdr.specs.RecordLine.{record_line};
+    ghost use Rattle.xp_keeping.specs.Printing.{HasPrinted, Prints};
 
     ghost given = { λ p. p.given };
 
-    ghost lines = { λ p. line_count p.subs };
+    ghost keeps = { λ p q. q.before ≡ p.before };
 
-    ghost keeps = { λ p q. (q.subs ≡ p.subs) × (q.before ≡ p.before) };
-
-    ghost kept = { λ p calls result. Prints p.before p.contents (flat_map (printed_text p.subs) calls) result };
+    ghost kept = { λ p calls result. Prints p.before p.contents (flat_map record_line calls) result };
 
     ghost has_kept = { HasPrinted };
 
@@ -147,24 +129,22 @@ impl<W: Write + Drop> CallKeeper for RecordPrinter<W> {
         self.count
     }
 
-    ghost keeps_itself = { λ p. (refl, refl) };
+    ghost keeps_itself = { λ p. refl };
 
-    ghost keeps_on = { λ p q r first second. (second.0 ∙ first.0, second.1 ∙ first.1) };
+    ghost keeps_on = { λ p q r first second. second ∙ first };
 }
 
 /// Writes the lines of further calls, unless there was a fault before.
 fn print_more<W: Write>(
     before: Result<(), KeepFault>,
-    subs: &Subs,
     calls: &[EndedCall],
     text: &mut Vec<u8>,
     writer: &mut W,
 ) -> Result<(), KeepFault>
-    requires { All (λ call. HasLines (line_count subs.now) call.charging) calls.now }
-    ensures { PrintsOn before (W.contents writer.old) (W.contents writer.new) (flat_map (printed_text subs.now) calls.now) result }
+    ensures { PrintsOn before (W.contents writer.old) (W.contents writer.new) (flat_map record_line calls.now) result }
 {
     match before {
-        Ok(()) => print_records(subs, calls, text, writer),
+        Ok(()) => print_records(calls, text, writer),
         Err(fault) => Err(fault),
     }
 }
@@ -175,16 +155,14 @@ fn print_more<W: Write>(
 ///
 /// `Memory`, `Output`. Then a front of them is written.
 fn print_records<W: Write>(
-    subs: &Subs,
     calls: &[EndedCall],
     text: &mut Vec<u8>,
     writer: &mut W,
 ) -> Result<(), KeepFault>
-    requires lines { All (λ call. HasLines (line_count subs.now) call.charging) calls.now }
-    ensures { Prints (W.contents writer.old) (W.contents writer.new) (flat_map (printed_text subs.now) calls.now) result }
+    ensures { Prints (W.contents writer.old) (W.contents writer.new) (flat_map record_line calls.now) result }
 {
     for call in calls {
-        print_record(subs, &call.charging, text, writer)?;
+        print_record(call, text, writer)?;
     }
     match writer.flush() {
         Ok(()) => Ok(()),
@@ -194,16 +172,14 @@ fn print_records<W: Write>(
 
 /// Writes the line of a charging record, which it makes in the room of the one before.
 fn print_record<W: Write>(
-    subs: &Subs,
-    ended: &Record,
+    call: &EndedCall,
     text: &mut Vec<u8>,
     writer: &mut W,
 ) -> Result<(), KeepFault>
-    requires { HasLines (line_count subs.now) ended.now }
-    ensures { Prints (W.contents writer.old) (W.contents writer.new) (record_text subs.now ended.now) result }
+    ensures { Prints (W.contents writer.old) (W.contents writer.new) (record_line call.now) result }
 {
     text.clear();
-    ended.write(subs, text)?;
+    write_record(call, text)?;
     match write_out(writer, text) {
         Ok(()) => Ok(()),
         Err(_) => Err(KeepFault::Output),

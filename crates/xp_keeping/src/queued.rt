@@ -1,7 +1,8 @@
 //! Keeping charging records on a thread of its own.
 
-ghost use Rattle.std.specs.Prelude.{◌≡◌, ◌↔◌, ◌++◌, ◌∷◌, [], IfOk, None, map, option_copied, true};
+ghost use Rattle.std.specs.Prelude.{◌≡◌, ◌↔◌, ◌++◌, ◌∷◌, [], All, IfOk, None, map, option_copied, true};
 ghost use Rattle.xp_cdr.specs.Ended.{ended_as};
+ghost use Rattle.xp_charge.specs.Lines.{HasLines};
 ghost use Rattle.xp_keeping.specs.Queued.{AreKeptBeside, KeepsBeside, first_queued};
 ghost use Rattle.xp_keeping.specs.steps.Queued.{Adds, GoesOnBeside};
 ghost use Rattle.xp_keeping.specs.steps.Thread.{IsGivenBack};
@@ -13,6 +14,7 @@ use crate::keeping::RecordKeeper;
 use crate::record_queue::RecordQueue;
 use crate::record_thread::{GivesBack, ThreadEnd, keep_records};
 use crate::signal::KeepingSignal;
+use crate::telling::Telling;
 use std::alloc::{AllocError, Global};
 use std::collections::VecDeque;
 use std::marker::Model;
@@ -22,8 +24,7 @@ use std::thread;
 use std::thread::{PromisedHandle, Threads};
 use xp_cdr::{EndedBy, EndedCall};
 use xp_charge::Record;
-use xp_past::Past;
-use xp_sink::{Received, RecordSink};
+use xp_sink::{NextSubs, NotInForce, Received, RecordSink};
 use xp_subs::Subs;
 use xp_view::ExchangeView;
 
@@ -39,8 +40,8 @@ const MOST_LOOKS: usize = 1_000;
 #[derive(Drop)]
 pub struct QueuedKeeper<K: CallKeeper, R: Threads + Wait> {
     rt: R,
-    /// The subscriptions, by which the records name lines.
-    subs: Snapshot<Subs>,
+    /// By what the lines of the calls are named.
+    telling: Telling,
     queue: RecordQueue,
     signal: Arc<KeepingSignal>,
     /// The thread, until it has ended.
@@ -54,7 +55,6 @@ pub struct QueuedKeeper<K: CallKeeper, R: Threads + Wait> {
     /// By what the calls end whose records are received.
     ended_by: EndedBy,
     first: Snapshot<K>,
-    given: Past<EndedCall>,
 }
 
 impl<K: CallKeeper, R: Threads + Wait> Model for QueuedKeeper<K, R> {
@@ -64,13 +64,14 @@ impl<K: CallKeeper, R: Threads + Wait> Model for QueuedKeeper<K, R> {
 
     ghost Value = { Queued K };
 
-    ghost view = { λ k. record { subs = k.subs.value; given = k.given.items; ended_by = k.ended_by; is_short = k.is_short; first = k.first.value; last = k.last; left = k.queue.left; fault = k.fault } };
+    ghost view = { λ k. record { opening = k.telling.opening; named = k.telling.named; subs = k.telling.subs; given = k.telling.given; ended_by = k.ended_by; is_short = k.is_short; first = k.first.value; last = k.last; left = k.queue.left; fault = k.fault } };
 
-    ghost invariant = { λ k. IsHandedOn k.queue.all k.given.items k.is_short × IfSome k.thread (λ handle. (handle.promise.first.value ≡ k.first.value) × (handle.promise.records.value.queue ≡ k.queue.queue)) };
+    ghost invariant = { λ k. IsHandedOn k.queue.all k.telling.given k.is_short × IfSome k.thread (λ handle. (handle.promise.first.value ≡ k.first.value) × (handle.promise.records.value.queue ≡ k.queue.queue)) };
 }
 
 impl<K: CallKeeper + Send + 'static, R: Threads + Wait + Copy + Send + 'static> QueuedKeeper<K, R> {
-    /// Starts the thread of a keeper that was given no record yet. Where it does not end in time, `fault` is told.
+    /// Starts the thread of a keeper that was given no record yet. Calls are told by these subscriptions. Where the thread does not end
+    /// in time, `fault` is told.
     ///
     /// # Errors
     ///
@@ -78,33 +79,30 @@ impl<K: CallKeeper + Send + 'static, R: Threads + Wait + Copy + Send + 'static> 
     pub fn start(
         rt: R,
         alloc: Global,
-        subs: &Subs,
+        subs: Subs,
         keeper: K,
         fault: KeepFault,
     ) -> Result<QueuedKeeper<K, R>, AllocError>
-        requires lines { K.lines keeper ≡ line_count subs.now }
         requires received { K.given keeper ≡ [] }
-        ensures { IfOk result (λ queued. queued ≡ first_queued subs.now keeper fault) }
+        ensures { IfOk result (λ queued. queued ≡ first_queued subs keeper fault) }
     {
         let (queue, records) = RecordQueue::new(alloc)?;
         let signal = Arc::new(alloc, KeepingSignal::new())?;
         let theirs = Arc::try_clone(&signal)?;
-        let lines = subs.counts().lines;
         let first = Snapshot::of(&keeper);
         let promise = GivesBack {
             first: Snapshot::of(&keeper),
             records: Snapshot::of(&records),
         };
         let run = move || -> ThreadEnd<K>
-            requires lines { K.lines keeper ≡ lines }
             requires received { K.given keeper ≡ [] }
             requires taken { records.taken ≡ [] }
             ensures { IsGivenBack K.kept K.keeps keeper records.queue result.keeper result.records result.outcome }
-        { keep_records(&rt, alloc, lines, keeper, records, &theirs) };
+        { keep_records(&rt, alloc, keeper, records, &theirs) };
         let thread = thread::spawn_with(&rt, promise, run)?;
         Ok(QueuedKeeper {
             rt,
-            subs: Snapshot::of(subs),
+            telling: Telling::new(subs),
             queue,
             signal,
             thread: Some(thread),
@@ -113,7 +111,6 @@ impl<K: CallKeeper + Send + 'static, R: Threads + Wait + Copy + Send + 'static> 
             is_short: false,
             ended_by: EndedBy::Call,
             first,
-            given: Past::new(),
         })
     }
 }
@@ -142,7 +139,8 @@ impl<K: CallKeeper, R: Threads + Wait + Copy> QueuedKeeper<K, R> {
 
     /// Hands over these records, unless memory was wanting before.
     fn hand_over(&mut self, records: &[Record])
-        ensures given { self.new.given ≡ self.old.given ++ map (ended_as self.old.ended_by) records.now }
+        requires lines { All (HasLines (line_count self.old.subs)) records.now }
+        ensures given { self.new.given ≡ self.old.given ++ map (ended_as self.old.subs self.old.ended_by) records.now }
         ensures goes_on { GoesOnBeside self.old self.new }
     {
         for ended in records {
@@ -152,14 +150,11 @@ impl<K: CallKeeper, R: Threads + Wait + Copy> QueuedKeeper<K, R> {
 
     /// Hands over this record, unless memory was wanting before.
     fn hand_over_one(&mut self, ended: &Record)
-        ensures given { self.new.given ≡ self.old.given ++ ended_as self.old.ended_by ended.now ∷ [] }
+        requires lines { HasLines (line_count self.old.subs) ended.now }
+        ensures given { self.new.given ≡ self.old.given ++ ended_as self.old.subs self.old.ended_by ended.now ∷ [] }
         ensures goes_on { GoesOnBeside self.old self.new }
     {
-        let call = EndedCall {
-            charging: ended.copy(),
-            ended_by: self.ended_by,
-        };
-        self.given.push(&call);
+        let call = self.telling.tell(ended, self.ended_by);
         self.is_short = add(self.is_short, &mut self.queue, call);
     }
 
@@ -217,6 +212,7 @@ impl<K: CallKeeper, R: Threads + Wait + Copy> QueuedKeeper<K, R> {
         ensures kept { AreKeptBeside K.kept K.keeps self.new self.old.given result }
         ensures goes_on { KeepsBeside self.old self.new }
     {
+        let _subs = self.telling.subs();
         let Some(handle) = self.thread.take() else {
             return self.give_up();
         };
@@ -226,16 +222,14 @@ impl<K: CallKeeper, R: Threads + Wait + Copy> QueuedKeeper<K, R> {
             outcome,
         } = handle.join(&self.rt);
         let has_all = self.queue.has_all(&self.rt, records);
-        match outcome {
-            Some(outcome) if has_all => {
-                self.last = Some(keeper);
-                if self.is_short {
-                    Err(KeepFault::Memory)
-                } else {
-                    outcome
-                }
-            }
-            _ => self.give_up(),
+        if !has_all {
+            return self.give_up();
+        }
+        self.last = Some(keeper);
+        if self.is_short {
+            Err(KeepFault::Memory)
+        } else {
+            outcome
         }
     }
 
@@ -244,6 +238,7 @@ impl<K: CallKeeper, R: Threads + Wait + Copy> QueuedKeeper<K, R> {
         requires { self.now.last ≡ None }
         ensures { AreKeptBeside K.kept K.keeps self.now self.now.given result }
     {
+        let _subs = self.telling.subs();
         let _left = self.queue.left();
         if self.is_short {
             Err(KeepFault::Memory)
@@ -261,8 +256,8 @@ fn add(is_short: bool, queue: &mut RecordQueue, ended: EndedCall) -> bool
 }
 
 impl<K: CallKeeper, R: Threads + Wait + Copy + Drop> RecordSink for QueuedKeeper<K, R> {
-    ghost use Rattle.std.specs.Prelude.{◌≡◌};
-    ghost use Rattle.std.proofs.Common.{refl, ◌∙◌};
+    ghost use Rattle.std.specs.Prelude.{[], ◌++◌};
+    ghost use Rattle.std.proofs.Common.{ap, append-nil, append_assoc, refl, sym, ◌∙◌};
     ghost use Rattle.xp_cdr.specs.Ended.{charging_records};
     ghost use Rattle.xp_keeping.specs.Queued.{KeepsBeside};
     ghost use Rattle.xp_subs.specs.Tables.{line_count};
@@ -271,7 +266,11 @@ impl<K: CallKeeper, R: Threads + Wait + Copy + Drop> RecordSink for QueuedKeeper
 
     ghost lines = { λ k. line_count k.subs };
 
-    ghost tables = { λ k. k.subs };
+    ghost tables = { λ k. k.opening };
+
+    ghost named_by = { λ k. k.subs };
+
+    ghost has_handed = { λ _ _. ⊥ };
 
     ghost keeps = { KeepsBeside };
 
@@ -291,16 +290,20 @@ impl<K: CallKeeper, R: Threads + Wait + Copy + Drop> RecordSink for QueuedKeeper
 
     fn see(&mut self, _view: ExchangeView) {}
 
-    ghost keeps_itself = { λ k. (refl, refl, refl) };
+    fn next_subs(&mut self) -> Option<NextSubs> {
+        None
+    }
 
-    ghost keeps_on = { λ k l m first second. (second.0 ∙ first.0, second.1 ∙ first.1, second.2 ∙ first.2) };
+    fn reloaded(&mut self, _outcome: Result<(), NotInForce>) {}
+
+    ghost keeps_itself = { λ k. record { opening = refl; later = []; named = sym (append-nil k.named); lines = refl; first = refl; fault = refl } };
+
+    ghost keeps_on = { λ k l m first second. record { opening = second.opening ∙ first.opening; later = first.later ++ second.later; named = second.named ∙ ap (λ named. named ++ second.later) first.named ∙ append_assoc k.named first.later second.later; lines = second.lines ∙ first.lines; first = second.first ∙ first.first; fault = second.fault ∙ first.fault } };
 }
 
 impl<K: CallKeeper, R: Threads + Wait + Copy + Drop> RecordKeeper for QueuedKeeper<K, R> {
     ghost use Rattle.std.proofs.Common.{refl};
     ghost use Rattle.xp_keeping.specs.Queued.{AreKeptBeside};
-
-    ghost named_by = { λ k. k.subs };
 
     ghost calls = { λ k. k.given };
 
@@ -308,12 +311,16 @@ impl<K: CallKeeper, R: Threads + Wait + Copy + Drop> RecordKeeper for QueuedKeep
 
     ghost has_lines = { λ k. refl };
 
-    ghost keeps_names = { λ k l same. same.0 };
+    ghost keeps_lines = { λ k l same. same.lines };
 
     ghost are_received = { λ k. refl };
 
     fn waiting(&self) -> usize {
         self.queue.count()
+    }
+
+    fn rename(&mut self, subs: Subs) {
+        self.telling.rename(subs);
     }
 
     fn stop(&mut self) {

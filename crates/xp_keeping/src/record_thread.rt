@@ -1,7 +1,6 @@
 //! The thread that keeps charging records.
 
-ghost use Rattle.std.specs.Prelude.{◌≡◌, ◌≤◌, ◌++◌, [], All, IfOk, OnOk, true, vec_capacity};
-ghost use Rattle.xp_charge.specs.Lines.{HasLines};
+ghost use Rattle.std.specs.Prelude.{◌≡◌, ◌≤◌, ◌++◌, [], vec_capacity};
 ghost use Rattle.xp_keeping.specs.steps.Thread.{IsGivenBack};
 
 use crate::call_keeper::CallKeeper;
@@ -12,7 +11,6 @@ use std::snapshot::Snapshot;
 use std::sync::Wait;
 use std::thread::Promise;
 use xp_cdr::EndedCall;
-use xp_charge::Record;
 use xp_outbox::TakeEnd;
 use xp_sink::Received;
 
@@ -25,8 +23,8 @@ pub(crate) struct ThreadEnd<K: CallKeeper> {
     pub(crate) keeper: K,
     /// The end of the queue from which it took the records.
     pub(crate) records: TakeEnd<EndedCall, Global>,
-    /// What came of keeping them. `None` where one of them named a line that there is not.
-    pub(crate) outcome: Option<Result<(), KeepFault>>,
+    /// What came of keeping them.
+    pub(crate) outcome: Result<(), KeepFault>,
 }
 
 /// The promise of a thread that it gives the keeper back, which has kept all that the thread took from the queue.
@@ -44,10 +42,6 @@ impl<K: CallKeeper> Promise<ThreadEnd<K>> for GivesBack<K> {
     ghost kept_by = { λ promise end. IsGivenBack K.kept K.keeps promise.first.value promise.records.value.queue end.keeper end.records end.outcome };
 }
 
-/// A record names a line that there is not.
-#[derive(Drop)]
-struct NoSuchLine;
-
 /// What one look at the queue came to.
 #[derive(Drop)]
 struct Look {
@@ -60,12 +54,10 @@ struct Look {
 pub(crate) fn keep_records<K: CallKeeper, R: Wait>(
     rt: &R,
     alloc: Global,
-    lines: usize,
     keeper: K,
     records: TakeEnd<EndedCall, Global>,
     signal: &KeepingSignal,
 ) -> ThreadEnd<K>
-    requires lines { K.lines keeper ≡ lines }
     requires received { K.given keeper ≡ [] }
     requires taken { records.taken ≡ [] }
     ensures { IsGivenBack K.kept K.keeps keeper records.queue result.keeper result.records result.outcome }
@@ -74,14 +66,7 @@ pub(crate) fn keep_records<K: CallKeeper, R: Wait>(
     let mut records = records;
     for _ in rt.forever() {
         let is_over = signal.is_over();
-        let Ok(look) = keep_some(rt, alloc, lines, &mut keeper, &mut records) else {
-            signal.tell_end();
-            return ThreadEnd {
-                keeper,
-                records,
-                outcome: None,
-            };
-        };
+        let look = keep_some(rt, alloc, &mut keeper, &mut records);
         tell(signal, &keeper, look.received);
         if look.count == 0 {
             if is_over {
@@ -104,7 +89,7 @@ fn finish<K: CallKeeper>(
     ensures kept { IsGivenBack K.kept K.keeps keeper records.queue result.keeper result.records result.outcome }
 {
     let mut keeper = keeper;
-    let outcome = Some(keeper.finish());
+    let outcome = keeper.finish();
     signal.tell_end();
     ThreadEnd {
         keeper,
@@ -124,74 +109,47 @@ fn tell<K: CallKeeper>(signal: &KeepingSignal, keeper: &K, received: Received) {
 
 /// Gives the keeper some of the records that wait in the queue, if there are any and memory for them, and else lets it do what it
 /// does from time to time.
-///
-/// # Errors
-///
-/// A record names a line that there is not. It and those taken with it are then lost.
 fn keep_some<K: CallKeeper, R: Wait>(
     rt: &R,
     alloc: Global,
-    lines: usize,
     keeper: &mut K,
     records: &mut TakeEnd<EndedCall, Global>,
-) -> Result<Look, NoSuchLine>
-    requires lines { K.lines keeper.old ≡ lines }
-    ensures lines { K.lines keeper.new ≡ lines }
+) -> Look
     ensures keeps { K.keeps keeper.old keeper.new }
     ensures queue { records.new.queue ≡ records.old.queue }
-    ensures received { OnOk result (K.given keeper.old ≡ records.old.taken → K.given keeper.new ≡ records.new.taken) }
+    ensures received { K.given keeper.old ≡ records.old.taken → K.given keeper.new ≡ records.new.taken }
 {
     let Ok(room) = Vec::with_capacity(alloc, MOST_AT_ONCE) else {
         let received = keeper.tick();
-        return Ok(Look { count: 0, received });
+        return Look { count: 0, received };
     };
-    let batch = take_batch(rt, lines, records, room)?;
+    let batch = take_batch(rt, records, room);
     let count = batch.len();
     let received = if count == 0 {
         keeper.tick()
     } else {
         keeper.keep(batch)
     };
-    Ok(Look { count, received })
+    Look { count, received }
 }
 
 /// Takes some of the records that wait in the queue.
-///
-/// # Errors
-///
-/// One of them names a line that there is not.
 fn take_batch<R: Wait>(
     rt: &R,
-    lines: usize,
     records: &mut TakeEnd<EndedCall, Global>,
     room: Vec<EndedCall>,
-) -> Result<Vec<EndedCall>, NoSuchLine>
+) -> Vec<EndedCall>
     requires none { room.items ≡ [] }
     requires room { 256 ≤ vec_capacity room }
     ensures queue { records.new.queue ≡ records.old.queue }
-    ensures taken { IfOk result (λ batch. records.new.taken ≡ records.old.taken ++ batch.items) }
-    ensures lines { IfOk result (λ batch. All (λ call. HasLines lines call.charging) batch.items) }
+    ensures taken { records.new.taken ≡ records.old.taken ++ result.items }
 {
     let mut batch = room;
     for _place in 0..MOST_AT_ONCE {
         let Some(ended) = records.take(rt) else {
             break;
         };
-        if !has_lines(lines, &ended.charging) {
-            return Err(NoSuchLine);
-        }
         batch.push_reserved(ended);
     }
-    Ok(batch)
-}
-
-/// Whether a record names only lines with numbers below `lines`.
-pub(crate) fn has_lines(lines: usize, ended: &Record) -> bool
-    ensures { result ≡ true → HasLines lines ended.now }
-{
-    let has_called = match ended.called {
-        Some(line) => usize::from(line) < lines,
-        None => true,
-    };
-    has_called && usize::from(ended.caller) < lines
+    batch
 }

@@ -15,8 +15,7 @@ use std::thread::Threads;
 use xp_cdr::RecordFile;
 use xp_subs::Subs;
 
-/// Starts the thread of a keeper of call detail records, which was given no record yet. `subs` are the subscriptions by which the
-/// records name lines.
+/// Starts the thread of a keeper of call detail records, which was given no record yet. Calls are told by these subscriptions.
 ///
 /// # Errors
 ///
@@ -28,17 +27,16 @@ pub fn start_details<
 >(
     rt: R,
     alloc: Global,
-    subs: &Subs,
+    subs: Subs,
     keeper: DetailKeeper<F, L>,
 ) -> Result<QueuedKeeper<DetailKeeper<F, L>, R>, AllocError>
-    requires named { keeper.subs ≡ subs.now }
-    requires received { keeper.given ≡ [] }
-    ensures { IfOk result (λ queued. queued ≡ first_queued subs.now keeper KeepFault.Details) }
+    requires { keeper.given ≡ [] }
+    ensures { IfOk result (λ queued. queued ≡ first_queued subs keeper KeepFault.Details) }
 {
     QueuedKeeper::start(rt, alloc, subs, keeper, KeepFault::Details)
 }
 
-/// Starts the thread of a printer that was given no record yet. `subs` are the subscriptions by which the records name lines.
+/// Starts the thread of a printer that was given no record yet. Calls are told by these subscriptions.
 ///
 /// # Errors
 ///
@@ -46,12 +44,11 @@ pub fn start_details<
 pub fn start_printer<W: Write + Drop + Send + 'static, R: Threads + Wait + Copy + Send + 'static>(
     rt: R,
     alloc: Global,
-    subs: &Subs,
+    subs: Subs,
     keeper: RecordPrinter<W>,
 ) -> Result<QueuedKeeper<RecordPrinter<W>, R>, AllocError>
-    requires named { keeper.subs ≡ subs.now }
-    requires received { keeper.given ≡ [] }
-    ensures { IfOk result (λ queued. queued ≡ first_queued subs.now keeper KeepFault.Output) }
+    requires { keeper.given ≡ [] }
+    ensures { IfOk result (λ queued. queued ≡ first_queued subs keeper KeepFault.Output) }
 {
     QueuedKeeper::start(rt, alloc, subs, keeper, KeepFault::Output)
 }

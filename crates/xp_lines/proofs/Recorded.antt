@@ -1,11 +1,17 @@
 -- Records that go from a recorder to a sink, in one turn after the other.
-use Rattle.std.proofs.Common.{◌≡◌, List, [], ◌++◌, sym, ap, subst, ◌∙◌, append_assoc, append-nil}
+use Rattle.std.proofs.Common.{◌≡◌, List, [], ◌++◌, None, Option, Result, Ok, Err, OnOk, sym, ap, subst, ◌∙◌, append_assoc, append-nil}
 use Rattle.std.specs.declared.alloc.Global.{Global as Alloc}
 use Rattle.xp_charge.specs.declared.record.Record.{Record}
 use Rattle.xp_core.specs.Records.{records_of}
 use Rattle.xp_lock.specs.Passes.{IsLegal}
+use Rattle.xp_lock.specs.declared.fault.ReloadRefusal.{ReloadRefusal}
 use Rattle.xp_seats.specs.Recording.{Recording}
+use Rattle.xp_sink.specs.InForce.{AreInForce}
 use Rattle.xp_sink.specs.Seen.{IsSeen}
+use Rattle.xp_reload.specs.Frame.{IsSameFrame}
+use Rattle.xp_step.proofs.InForce.{run_frame}
+use Rattle.xp_step.specs.InForce.{in_force}
+use Rattle.xp_step.specs.Worlds.{world_after}
 use Rattle.xp_subs.specs.Tables.{Tables}
 use Rattle.xp_view.specs.Views.{Shows}
 use Rattle.xp_view.specs.declared.view.ExchangeView.{ExchangeView}
@@ -49,6 +55,18 @@ module _ {A S : Type 0} (received : S → List Record) (keeps : S → S → Type
     kept = on before mid after handed.kept kept;
   }
 
+  -- the sink was called before, and given nothing
+  pub handed_from : ((first second third : S) → keeps first second → keeps second third → keeps first third)
+      → (old : Recording A) (before mid : S) (new : Recording A) (after : S)
+      → keeps before mid → received mid ≡ received before → HandsOn received keeps old mid new after → HandsOn received keeps old before new after
+  handed_from on old before mid new after kept same handed = record {
+    more = handed.more;
+    taken = handed.taken;
+    given = handed.given ∙ ap (λ xs. xs ++ handed.more) same;
+    seen = handed.seen;
+    kept = on before mid after kept handed.kept;
+  }
+
   -- the sink was given what the recorder took, and so it was after a turn
   pub still_received : (old : Recording A) (before : S) (new : Recording A) (after : S) → received before ≡ old.received
       → HandsOn received keeps old before new after → received after ≡ new.received
@@ -65,3 +83,21 @@ seen_by tables own recorder given view same taken each legal shows =
       records_are = taken ∙ each;
       shows = shows;
     })
+
+-- subscriptions that came into force are so for a sink that was given what the recorder took, and that handed them out
+pub in_force_by : {E : Type 0} (Handed : Tables → Type 0) (outcome : Result (Unit {0}) E) (refusal : Option ReloadRefusal) (tables own : Tables) (recorder : Recording Alloc)
+    (given : List Record) (next : Tables) → OnOk outcome (refusal ≡ None) → (refusal ≡ None → in_force tables recorder.seen ≡ next) → own ≡ tables → given ≡ recorder.received
+    → recorder.received ≡ records_of recorder.seen → IsLegal tables recorder.seen → Handed next
+    → OnOk outcome ((asked : Tables) × Handed asked × AreInForce own given asked)
+in_force_by Handed (Ok done) refusal tables own recorder given next none comes same taken each legal handed = (
+  next,
+  handed,
+  subst (λ opening. AreInForce opening given next) (sym same) (record {
+    history = recorder.seen;
+    legal = legal;
+    records_are = taken ∙ each;
+    in_force = comes none;
+    frame = subst (IsSameFrame tables) (comes none) (run_frame tables recorder.seen (world_after tables recorder.seen) legal);
+  }),
+)
+in_force_by Handed (Err fault) refusal tables own recorder given next none comes same taken each legal handed = tt

@@ -1,17 +1,17 @@
-//! Charging records are taken from the exchange as calls end, and handed to a sink.
+//! Charging records are taken from the exchange as calls end, and handed to a sink, and what the sink asks of the exchange is done.
 
-ghost use Rattle.std.specs.Prelude.{◌≡◌, ◌++◌, All};
+ghost use Rattle.std.specs.Prelude.{◌≡◌, ◌++◌, None, All, OnOk};
 ghost use Rattle.xp_charge.specs.Lines.{HasLines};
 ghost use Rattle.xp_lines.specs.Recorded.{HandsOn};
-ghost use Rattle.xp_subs.specs.Tables.{line_count};
+ghost use Rattle.xp_subs.specs.Tables.{Tables, line_count};
 
 use crate::signals::Signals;
 use std::alloc::Global;
 use std::sync::Wait;
 use xp_charge::Record;
-use xp_lock::{Exchange, Look};
+use xp_lock::{Exchange, Look, ReloadRefusal, Reloading};
 use xp_seats::{Name, Recorder};
-use xp_sink::{Received, RecordSink};
+use xp_sink::{NextSubs, NotInForce, Received, RecordSink};
 
 /// The recorder of an exchange, and the sink that its records were handed to.
 #[derive(Drop)]
@@ -61,9 +61,69 @@ fn stop_at(signals: &Signals, received: Received) {
     }
 }
 
-/// Hands the records of the calls that have ended since to the sink, and lets it see the exchange where it wants that. If no memory
-/// can be had for the records, they wait.
+/// Hands the records of the calls that have ended since to the sink. Where it hands out other subscriptions, these come into force
+/// before that. Else it sees the exchange, where it wants to. If no memory can be had for the records, they wait.
 fn hand_over<N: Name, S: RecordSink, R: Wait>(
+    rt: &R,
+    alloc: Global,
+    exchange: &Exchange<N>,
+    recorder: &mut Recorder<N>,
+    sink: &mut S,
+) -> Received
+    requires lines { S.lines sink.old ≡ line_count N.subs }
+    requires tables { S.tables sink.old ≡ N.subs }
+    requires received { S.received sink.old ≡ recorder.old.received }
+    ensures lines { S.lines sink.new ≡ S.lines sink.old }
+    ensures tables { S.tables sink.new ≡ S.tables sink.old }
+    ensures hands { HandsOn S.received S.keeps recorder.old sink.old recorder.new sink.new }
+{
+    match sink.next_subs() {
+        Some(next) => reload(rt, exchange, recorder, sink, next),
+        None => hand_on(rt, alloc, exchange, recorder, sink),
+    }
+}
+
+/// Hands the records of the calls that have ended since to the sink, and then tells it whether these subscriptions, which it handed
+/// out, are in force.
+fn reload<N: Name, S: RecordSink, R: Wait>(
+    rt: &R,
+    exchange: &Exchange<N>,
+    recorder: &mut Recorder<N>,
+    sink: &mut S,
+    next: NextSubs,
+) -> Received
+    requires handed { S.has_handed sink.old next.subs }
+    requires lines { S.lines sink.old ≡ line_count N.subs }
+    requires tables { S.tables sink.old ≡ N.subs }
+    requires received { S.received sink.old ≡ recorder.old.received }
+    ensures lines { S.lines sink.new ≡ S.lines sink.old }
+    ensures tables { S.tables sink.new ≡ S.tables sink.old }
+    ensures hands { HandsOn S.received S.keeps recorder.old sink.old recorder.new sink.new }
+{
+    let NextSubs { subs, moment } = next;
+    let Ok(reloading) = exchange.reload(rt, recorder, subs, moment) else {
+        sink.reloaded(Err(NotInForce::Memory));
+        return Received::GoesOn;
+    };
+    let Reloading { records, refusal } = reloading;
+    let received = give(sink, records);
+    sink.reloaded(outcome_of(refusal));
+    received
+}
+
+/// What a sink is told where subscriptions were refused, or not.
+fn outcome_of(refusal: Option<ReloadRefusal>) -> Result<(), NotInForce>
+    ensures { OnOk result (refusal ≡ None) }
+{
+    match refusal {
+        None => Ok(()),
+        Some(ReloadRefusal::Halted) => Err(NotInForce::Halted),
+        Some(ReloadRefusal::Refused(fault)) => Err(NotInForce::Refused(fault)),
+    }
+}
+
+/// Hands the records of the calls that have ended since to the sink, and lets it see the exchange where it wants that.
+fn hand_on<N: Name, S: RecordSink, R: Wait>(
     rt: &R,
     alloc: Global,
     exchange: &Exchange<N>,
@@ -134,6 +194,7 @@ fn give<S: RecordSink>(sink: &mut S, records: Vec<Record>) -> Received
     ensures received { S.received sink.new ≡ S.received sink.old ++ records.items }
     ensures lines { S.lines sink.new ≡ S.lines sink.old }
     ensures tables { S.tables sink.new ≡ S.tables sink.old }
+    ensures handed { (next : Tables) → S.has_handed sink.old next → S.has_handed sink.new next }
     ensures keeps { S.keeps sink.old sink.new }
 {
     if records.is_empty() {

@@ -6,7 +6,7 @@ use std::sync::Arc;
 use std::sync::atomic::Ordering;
 use xp_charge::Record;
 use xp_past::Past;
-use xp_sink::{Received, RecordSink};
+use xp_sink::{NextSubs, NotInForce, Received, RecordSink};
 use xp_subs::Subs;
 use xp_testing_wires::Board;
 use xp_view::ExchangeView;
@@ -38,6 +38,10 @@ impl RecordSink for Kept {
 
     ghost tables = { λ kept. kept.shown.value };
 
+    ghost named_by = { λ kept. kept.subs };
+
+    ghost has_handed = { λ _ _. ⊥ };
+
     ghost keeps = { λ _ _. ⊤ };
 
     fn receive(&mut self, records: Vec<Record>) -> Received {
@@ -63,6 +67,12 @@ impl RecordSink for Kept {
         self.seen_entries = view.entries;
         drop(view);
     }
+
+    fn next_subs(&mut self) -> Option<NextSubs> {
+        None
+    }
+
+    fn reloaded(&mut self, _outcome: Result<(), NotInForce>) {}
 
     ghost keeps_itself = { λ _. tt };
 

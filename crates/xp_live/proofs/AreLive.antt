@@ -51,31 +51,31 @@ live_here lines line call live =
     let both = and_parts (is_some call.connected) (eqb call.caller line) caller.0 in
     (both.0, eqb-true call.caller line both.1)
 
-module _ {A : Type 0} (tables : Tables) (history : List (Entry A)) (moment : ℕ) where
+module _ {A : Type 0} (names tables : Tables) (history : List (Entry A)) (moment : ℕ) (as_many : line_count names ≡ line_count tables) where
   abbrev world : World
   world = world_after tables history
 
   abbrev lines : ℕ
-  lines = line_count tables
+  lines = line_count names
 
   abbrev callers : List EndedCall → List ℕ
   callers calls = map (λ ended. ended.charging.caller) calls
 
   -- what is taken at a line that is in this call
   abbrev taken_by : ℕ × Call → Bool → List EndedCall
-  taken_by found live = cond live (partial_call moment (call_view tables history found) ∷ []) []
+  taken_by found live = cond live (partial_call names moment (call_view tables history found) ∷ []) []
 
   each_by : (line : ℕ) (found : ℕ × Call) (live : Bool) → call_on world line ≡ Some found → is_live lines line (call_view tables history found) ≡ live
-      → All (IsCutOff tables history moment) (taken_by found live)
+      → All (IsCutOff names tables history moment) (taken_by found live)
   each_by line found true on live =
       let here = live_here lines line (call_view tables history found) live in
-      All-cons (IsCutOff tables history moment) (partial_call moment (call_view tables history found)) [] (record {
+      All-cons (IsCutOff names tables history moment) (partial_call names moment (call_view tables history found)) [] (record {
         number = found.0;
         call = found.1;
         connected = record { is_live = (shown_on world line found on).1; agreed = agreed_of found.1.agreed here.0 };
         is = refl;
-      }) (All-nil (IsCutOff tables history moment))
-  each_by line found false on live = All-nil (IsCutOff tables history moment)
+      }) (All-nil (IsCutOff names tables history moment))
+  each_by line found false on live = All-nil (IsCutOff names tables history moment)
 
   -- and its caller's line is this one
   own_by : (line : ℕ) (found : ℕ × Call) (live : Bool) → is_live lines line (call_view tables history found) ≡ live
@@ -86,10 +86,10 @@ module _ {A : Type 0} (tables : Tables) (history : List (Entry A)) (moment : ℕ
   own_by line found false live = (All-nil (λ caller. caller ≡ line), tt)
 
   abbrev taken_at : ℕ → Option (ℕ × Call) → List EndedCall
-  taken_at line found = live_call lines moment line (option_map (call_view tables history) found)
+  taken_at line found = live_call names moment line (option_map (call_view tables history) found)
 
-  each_at : (line : ℕ) (found : Option (ℕ × Call)) → call_on world line ≡ found → All (IsCutOff tables history moment) (taken_at line found)
-  each_at line None on = All-nil (IsCutOff tables history moment)
+  each_at : (line : ℕ) (found : Option (ℕ × Call)) → call_on world line ≡ found → All (IsCutOff names tables history moment) (taken_at line found)
+  each_at line None on = All-nil (IsCutOff names tables history moment)
   each_at line (Some found) on = each_by line found (is_live lines line (call_view tables history found)) on refl
 
   own_at : (line : ℕ) (found : Option (ℕ × Call)) → All (λ caller. caller ≡ line) (callers (taken_at line found)) × Ascend (callers (taken_at line found))
@@ -101,39 +101,39 @@ module _ {A : Type 0} (tables : Tables) (history : List (Entry A)) (moment : ℕ
     seen = view.lines.items
 
     -- what is taken at a line
-    taken_is : (line : ℕ) → line < lines → live_call_at lines moment line (slice_get seen line) ≡ taken_at line (call_on world line)
-    taken_is line within = ap (live_call_at lines moment line) (shows.each line within)
+    taken_is : (line : ℕ) → line < lines → live_call_at names moment line (slice_get seen line) ≡ taken_at line (call_on world line)
+    taken_is line within = ap (live_call_at names moment line) (shows.each line (omega (arith, within, as_many)))
 
-    each_of : (count : ℕ) → count ≤ lines → All (IsCutOff tables history moment) (live_calls_of lines moment seen count)
-    each_of zero most = All-nil (IsCutOff tables history moment)
+    each_of : (count : ℕ) → count ≤ lines → All (IsCutOff names tables history moment) (live_calls_of names moment seen count)
+    each_of zero most = All-nil (IsCutOff names tables history moment)
     each_of (suc line) most =
-        All-append (IsCutOff tables history moment) (live_calls_of lines moment seen line) (live_call_at lines moment line (slice_get seen line)) (each_of line (omega (arith, most)))
-        (subst (All (IsCutOff tables history moment)) (sym (taken_is line (omega (arith, most)))) (each_at line (call_on world line) refl))
+        All-append (IsCutOff names tables history moment) (live_calls_of names moment seen line) (live_call_at names moment line (slice_get seen line)) (each_of line (omega (arith, most)))
+        (subst (All (IsCutOff names tables history moment)) (sym (taken_is line (omega (arith, most)))) (each_at line (call_on world line) refl))
 
     -- the callers of those of the first lines are below
-    below_of : (count : ℕ) → count ≤ lines → All (λ caller. caller < count) (callers (live_calls_of lines moment seen count))
+    below_of : (count : ℕ) → count ≤ lines → All (λ caller. caller < count) (callers (live_calls_of names moment seen count))
     below_of zero most = All-nil (λ caller. caller < zero)
     below_of (suc line) most =
         let within : line < lines = omega (arith, most) in
         let own = subst (λ calls. All (λ caller. caller ≡ line) (callers calls)) (sym (taken_is line within)) (own_at line (call_on world line)).0 in
-        subst (All (λ caller. caller < suc line)) (sym (map-append (λ ended. ended.charging.caller) (live_calls_of lines moment seen line) (live_call_at lines moment line (slice_get seen line))))
-        (All-append (λ caller. caller < suc line) (callers (live_calls_of lines moment seen line)) (callers (live_call_at lines moment line (slice_get seen line)))
-        (All-weaker (λ caller. caller < line) (λ caller. caller < suc line) (λ caller below. omega (arith, below)) (callers (live_calls_of lines moment seen line)) (below_of line (omega (arith, most))))
-        (All-weaker (λ caller. caller ≡ line) (λ caller. caller < suc line) (λ caller is. omega (arith, is)) (callers (live_call_at lines moment line (slice_get seen line))) own))
+        subst (All (λ caller. caller < suc line)) (sym (map-append (λ ended. ended.charging.caller) (live_calls_of names moment seen line) (live_call_at names moment line (slice_get seen line))))
+        (All-append (λ caller. caller < suc line) (callers (live_calls_of names moment seen line)) (callers (live_call_at names moment line (slice_get seen line)))
+        (All-weaker (λ caller. caller < line) (λ caller. caller < suc line) (λ caller below. omega (arith, below)) (callers (live_calls_of names moment seen line)) (below_of line (omega (arith, most))))
+        (All-weaker (λ caller. caller ≡ line) (λ caller. caller < suc line) (λ caller is. omega (arith, is)) (callers (live_call_at names moment line (slice_get seen line))) own))
 
-    once_of : (count : ℕ) → count ≤ lines → Ascend (callers (live_calls_of lines moment seen count))
+    once_of : (count : ℕ) → count ≤ lines → Ascend (callers (live_calls_of names moment seen count))
     once_of zero most = tt
     once_of (suc line) most =
         let within : line < lines = omega (arith, most) in
         let own = subst (λ calls. All (λ caller. caller ≡ line) (callers calls) × Ascend (callers calls)) (sym (taken_is line within)) (own_at line (call_on world line)) in
-        subst Ascend (sym (map-append (λ ended. ended.charging.caller) (live_calls_of lines moment seen line) (live_call_at lines moment line (slice_get seen line))))
-        (ascend_append (callers (live_calls_of lines moment seen line)) (callers (live_call_at lines moment line (slice_get seen line))) (once_of line (omega (arith, most))) own.1
-        (All-weaker (λ caller. caller < line) (λ caller. All (λ other. caller < other) (callers (live_call_at lines moment line (slice_get seen line))))
-        (λ caller below. All-weaker (λ other. other ≡ line) (λ other. caller < other) (λ other is. omega (arith, below, is)) (callers (live_call_at lines moment line (slice_get seen line))) own.0)
-        (callers (live_calls_of lines moment seen line)) (below_of line (omega (arith, most)))))
+        subst Ascend (sym (map-append (λ ended. ended.charging.caller) (live_calls_of names moment seen line) (live_call_at names moment line (slice_get seen line))))
+        (ascend_append (callers (live_calls_of names moment seen line)) (callers (live_call_at names moment line (slice_get seen line))) (once_of line (omega (arith, most))) own.1
+        (All-weaker (λ caller. caller < line) (λ caller. All (λ other. caller < other) (callers (live_call_at names moment line (slice_get seen line))))
+        (λ caller below. All-weaker (λ other. other ≡ line) (λ other. caller < other) (λ other is. omega (arith, below, is)) (callers (live_call_at names moment line (slice_get seen line))) own.0)
+        (callers (live_calls_of names moment seen line)) (below_of line (omega (arith, most)))))
 
     contains_of : (count line : ℕ) (ended : EndedCall) → line < count → count ≤ lines → Contains (taken_at line (call_on world line)) ended
-        → Contains (live_calls_of lines moment seen count) ended
+        → Contains (live_calls_of names moment seen count) ended
     contains_of zero line ended below most there = absurd (omega (arith, below))
     contains_of (suc last) line ended below most there = elim (cases_lt line last) [
       | inl before ↦ Contains-append_left _ _ ended (contains_of last line ended before (omega (arith, most)) there)
@@ -155,25 +155,25 @@ module _ {A : Type 0} (tables : Tables) (history : List (Entry A)) (moment : ℕ
       on_caller : call_on world call.caller ≡ Some (number, call)
       on_caller = ap (numbered world) (shown_by held.stage) ∙ ap (option_map (λ one. (number, one))) connected.is_live
 
-      is_taken : taken_at call.caller (call_on world call.caller) ≡ cut_off tables history moment number call ∷ []
+      is_taken : taken_at call.caller (call_on world call.caller) ≡ cut_off names tables history moment number call ∷ []
       is_taken =
           ap (taken_at call.caller) on_caller
           ∙ cond-true (is_live lines call.caller (call_view tables history (number, call))) _ _
           (and_from _ (ltb call.called lines)
           (and_from _ (ltb call.caller lines)
           (and_from _ (eqb call.caller call.caller) (connected_of_agreed call.agreed connected.agreed) (eq-eqb call.caller call.caller refl))
-          (lt-ltb call.caller lines held.caller))
-          (lt-ltb call.called lines held.called))
+          (lt-ltb call.caller lines (omega (arith, held.caller, as_many))))
+          (lt-ltb call.called lines (omega (arith, held.called, as_many))))
 
-      pub in_all : Contains (live_calls_of lines moment seen lines) (cut_off tables history moment number call)
+      pub in_all : Contains (live_calls_of names moment seen lines) (cut_off names tables history moment number call)
       in_all =
-          contains_of lines call.caller (cut_off tables history moment number call) held.caller (omega arith)
-          (subst (λ calls. Contains calls (cut_off tables history moment number call)) (sym is_taken) (Contains-push [] (cut_off tables history moment number call)))
+          contains_of lines call.caller (cut_off names tables history moment number call) (omega (arith, held.caller, as_many)) (omega arith)
+          (subst (λ calls. Contains calls (cut_off names tables history moment number call)) (sym is_taken) (Contains-push [] (cut_off names tables history moment number call)))
 
-    pub are_live : Run tables history world → AreLiveCalls tables history moment (live_calls lines moment seen)
+    pub are_live : Run tables history world → AreLiveCalls names tables history moment (live_calls names moment seen)
     are_live run =
         let coupled = coupled_here tables history world world run refl in
-        subst (λ count. AreLiveCalls tables history moment (live_calls_of lines moment seen count)) (sym shows.count)
+        subst (λ count. AreLiveCalls names tables history moment (live_calls_of names moment seen count)) (as_many ∙ sym shows.count)
         (record {
           each = each_of lines (omega arith);
           all = λ number call connected. in_all coupled number call connected;

@@ -9,17 +9,23 @@ use Rattle.xp_sink.specs.Seen.{IsSeenOf}
 use Rattle.xp_subs.specs.Tables.{Tables, line_count}
 use Rattle.xp_view.specs.declared.view.ExchangeView.{ExchangeView}
 
--- the live calls of an exchange of these subscriptions, as it was seen, cut off at a moment
-pub record AreSeen (tables : Tables) (calls : List EndedCall) : Type 0 where
-  pub view : ExchangeView Alloc
-  pub seen : IsSeenOf tables view
-  pub moment : ℕ
-  pub calls_are : calls ≡ live_calls (line_count tables) moment view.lines.items
+-- what keeps live calls: the subscriptions with which the exchange was opened, and those by which it tells them, which have as many
+-- lines
+pub record Naming : Type 0 where
+  pub opening : Tables
+  pub names : Tables
 
--- The text of a file of live calls, of an exchange of some subscriptions in a run of it. It has no call where a run begins or has ended.
+-- the live calls of an exchange, as it was seen, cut off at a moment
+pub record AreSeen (naming : Naming) (calls : List EndedCall) : Type 0 where
+  pub view : ExchangeView Alloc
+  pub seen : IsSeenOf naming.opening view
+  pub lines : line_count naming.names ≡ line_count naming.opening
+  pub moment : ℕ
+  pub calls_are : calls ≡ live_calls naming.names moment view.lines.items
+
+-- The text of a file of live calls, of an exchange in a run of it. It has no call where a run begins or has ended.
 pub record IsKept (text : List ℕ) : Type 0 where
-  pub tables : Tables
   pub run : ExchangeRun
   pub calls : List EndedCall
-  pub are : (calls ≡ []) ⊎ AreSeen tables calls
-  pub text_is : text ≡ live_text tables run calls
+  pub are : (calls ≡ []) ⊎ ((naming : Naming) × AreSeen naming calls)
+  pub text_is : text ≡ live_text run calls

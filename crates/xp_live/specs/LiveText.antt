@@ -3,8 +3,7 @@ use Rattle.std.specs.Prelude.{List, ◌++◌, ℕ, flat_map}
 use Rattle.xp_cdr.specs.Details.{detail_text, header_text}
 use Rattle.xp_cdr.specs.declared.ended.EndedCall.{EndedCall}
 use Rattle.xp_cdr.specs.declared.run.ExchangeRun.{ExchangeRun}
-use Rattle.xp_subs.specs.Tables.{Tables}
 
 -- the names of the fields, and the call detail record of each call
-abbrev pub live_text : Tables → ExchangeRun → List EndedCall → List ℕ
-live_text tables run calls = header_text ++ flat_map (detail_text tables run) calls
+abbrev pub live_text : ExchangeRun → List EndedCall → List ℕ
+live_text run calls = header_text ++ flat_map (detail_text run) calls

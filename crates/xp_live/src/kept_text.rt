@@ -1,16 +1,13 @@
 //! A text of live calls that was made of what was seen of the exchange.
 
-ghost use Rattle.std.specs.Prelude.{◌≡◌, [], All, IfOk};
-ghost use Rattle.xp_charge.specs.Lines.{HasLines};
-ghost use Rattle.xp_live.specs.Kept.{AreSeen, IsKept};
+ghost use Rattle.std.specs.Prelude.{◌≡◌, [], IfOk};
+ghost use Rattle.xp_live.specs.Kept.{AreSeen, IsKept, Naming};
 ghost use Rattle.xp_live.specs.LiveText.{live_text as live_text_of};
-ghost use Rattle.xp_subs.specs.Tables.{line_count};
 
 use crate::text::live_text;
 use std::alloc::{AllocError, Global};
 use std::marker::Model;
 use xp_cdr::{EndedCall, ExchangeRun};
-use xp_subs::Subs;
 
 /// The text of a file of live calls: the names of the fields, and the partial records of the calls that were seen to be live at one
 /// moment. Contracts see its octets.
@@ -36,10 +33,10 @@ impl KeptText {
     /// # Errors
     ///
     /// `AllocError` if an allocation fails.
-    pub fn empty(alloc: Global, subs: &Subs, run: &ExchangeRun) -> Result<KeptText, AllocError>
-        ensures { IfOk result (λ text. text ≡ live_text_of subs.now run.now []) }
+    pub fn empty(alloc: Global, run: &ExchangeRun) -> Result<KeptText, AllocError>
+        ensures { IfOk result (λ text. text ≡ live_text_of run.now []) }
     {
-        let octets = live_text(alloc, subs, run, &[])?;
+        let octets = live_text(alloc, run, &[])?;
         Ok(KeptText { octets })
     }
 
@@ -48,17 +45,11 @@ impl KeptText {
     /// # Errors
     ///
     /// `AllocError` if an allocation fails.
-    pub fn of(
-        alloc: Global,
-        subs: &Subs,
-        run: &ExchangeRun,
-        calls: &[EndedCall],
-    ) -> Result<KeptText, AllocError>
-        requires lines { All (λ call. HasLines (line_count subs.now) call.charging) calls.now }
-        requires seen { AreSeen subs.now calls.now }
-        ensures { IfOk result (λ text. text ≡ live_text_of subs.now run.now calls.now) }
+    pub fn of(alloc: Global, run: &ExchangeRun, calls: &[EndedCall]) -> Result<KeptText, AllocError>
+        requires { (naming : Naming) × AreSeen naming calls.now }
+        ensures { IfOk result (λ text. text ≡ live_text_of run.now calls.now) }
     {
-        let octets = live_text(alloc, subs, run, calls)?;
+        let octets = live_text(alloc, run, calls)?;
         Ok(KeptText { octets })
     }
 

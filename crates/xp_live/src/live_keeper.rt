@@ -1,13 +1,15 @@
 //! Keeping the live calls of a run in a file.
 
-ghost use Rattle.std.specs.Prelude.{◌≡◌, IfOk};
+ghost use Rattle.std.specs.Prelude.{◌≡◌, ◌==◌, IfOk, if◌then◌else◌};
 ghost use Rattle.xp_sink.specs.Seen.{IsSeenOf};
+ghost use Rattle.xp_subs.specs.Tables.{line_count};
 
 use crate::connected::live_calls;
 use crate::kept_text::KeptText;
 use crate::live_thread::LiveThread;
 use std::alloc::{AllocError, Global};
 use std::marker::Model;
+use std::snapshot::Snapshot;
 use std::sync::Wait;
 use xp_cdr::{EndedCall, ExchangeRun};
 use xp_charge::Record;
@@ -25,11 +27,13 @@ struct WaitingText {
 }
 
 /// Makes the text of the live calls each second, and has a thread write it once each call that is not in it any more has its record
-/// on the disk. Nothing here waits. Contracts see the subscriptions of the exchange.
+/// on the disk. Nothing here waits. Contracts see the subscriptions with which the exchange was opened, and those by which the live
+/// calls are told.
 pub struct LiveKeeper<R: Wait> {
     alloc: Global,
-    /// The subscriptions, from which the lines have their names and addresses.
-    subs: Subs,
+    opening: Snapshot<Subs>,
+    /// The subscriptions from which the lines have their names and addresses.
+    names: Subs,
     run: ExchangeRun,
     clock: WallClock,
     thread: LiveThread<R>,
@@ -48,7 +52,8 @@ impl<R: Drop + Wait> Drop for LiveKeeper<R> {
     fn drop(self) {
         let LiveKeeper {
             alloc: _,
-            subs: _,
+            opening: _,
+            names: _,
             run: _,
             clock: _,
             thread: _,
@@ -62,15 +67,19 @@ impl<R: Drop + Wait> Drop for LiveKeeper<R> {
 }
 
 impl<R: Wait> Model for LiveKeeper<R> {
-    ghost use Rattle.xp_subs.specs.Tables.{Tables};
+    ghost use Rattle.std.specs.Prelude.{◌≡◌};
+    ghost use Rattle.xp_live.specs.Kept.{Naming};
+    ghost use Rattle.xp_subs.specs.Tables.{line_count};
 
-    ghost Value = { Tables };
+    ghost Value = { Naming };
 
-    ghost view = { λ keeper. keeper.subs };
+    ghost view = { λ keeper. record { opening = keeper.opening.value; names = keeper.names } };
+
+    ghost invariant = { λ keeper. line_count keeper.names ≡ line_count keeper.opening.value };
 }
 
 impl<R: Wait + Drop> LiveKeeper<R> {
-    /// Keeps the live calls of this run. The file is made empty at once.
+    /// Keeps the live calls of this run, told by these subscriptions. The file is made empty at once.
     ///
     /// # Errors
     ///
@@ -82,13 +91,14 @@ impl<R: Wait + Drop> LiveKeeper<R> {
         clock: WallClock,
         thread: LiveThread<R>,
     ) -> Result<LiveKeeper<R>, AllocError>
-        ensures { IfOk result (λ keeper. keeper ≡ subs) }
+        ensures { IfOk result (λ keeper. keeper ≡ record { opening = subs; names = subs }) }
     {
-        let text = KeptText::empty(alloc, &subs, &run)?;
+        let text = KeptText::empty(alloc, &run)?;
         let seen = clock.seconds();
         let mut keeper = LiveKeeper {
             alloc,
-            subs,
+            opening: Snapshot::of(&subs),
+            names: subs,
             run,
             clock,
             thread,
@@ -100,6 +110,16 @@ impl<R: Wait + Drop> LiveKeeper<R> {
         };
         keeper.look(0);
         Ok(keeper)
+    }
+
+    /// Tells live calls by these subscriptions from now on, unless they have another number of lines.
+    pub fn rename(&mut self, names: Subs)
+        ensures opening { self.new.opening ≡ self.old.opening }
+        ensures names { self.new.names ≡ (if line_count names == line_count self.old.names then names else self.old.names) }
+    {
+        if names.counts().lines == self.names.counts().lines {
+            self.names = names;
+        }
     }
 
     /// Takes note that calls have ended, whose records the keeper of records is given now.
@@ -118,7 +138,7 @@ impl<R: Wait + Drop> LiveKeeper<R> {
 
     /// Takes what can be seen of the exchange, as it was when the records were taken that were noted last, if it wants that.
     pub fn see(&mut self, view: &ExchangeView)
-        requires seen { IsSeenOf self.old view.now }
+        requires seen { IsSeenOf self.old.opening view.now }
         ensures { self.new ≡ self.old }
     {
         if !self.wants_look() {
@@ -138,14 +158,14 @@ impl<R: Wait + Drop> LiveKeeper<R> {
         view: &ExchangeView,
         moment: u64,
     ) -> Result<Option<WaitingText>, AllocError>
-        requires seen { IsSeenOf self.old view.now }
+        requires seen { IsSeenOf self.old.opening view.now }
         ensures { self.new ≡ self.old }
     {
-        let calls = live_calls(self.alloc, &self.subs, view, moment)?;
+        let calls = live_calls(self.alloc, &self.names, view, moment)?;
         if calls.is_empty() && self.is_empty {
             return Ok(None);
         }
-        let text = KeptText::of(self.alloc, &self.subs, &self.run, calls.as_slice())?;
+        let text = KeptText::of(self.alloc, &self.run, calls.as_slice())?;
         self.live = numbers_of(self.alloc, calls.as_slice())?;
         self.is_empty = calls.is_empty();
         Ok(Some(WaitingText {
@@ -193,7 +213,7 @@ impl<R: Wait + Drop> LiveKeeper<R> {
         ensures { self.new ≡ self.old }
     {
         if self.live.is_empty() {
-            let Ok(text) = KeptText::empty(self.alloc, &self.subs, &self.run) else {
+            let Ok(text) = KeptText::empty(self.alloc, &self.run) else {
                 return;
             };
             self.waiting = Some(WaitingText { text, records: 0 });

@@ -1,13 +1,10 @@
 //! The text of a live file.
 
-ghost use Rattle.std.specs.Prelude.{◌≡◌, All, IfOk};
-ghost use Rattle.xp_charge.specs.Lines.{HasLines};
+ghost use Rattle.std.specs.Prelude.{◌≡◌, IfOk};
 ghost use Rattle.xp_live.specs.LiveText.{live_text as live_text_of};
-ghost use Rattle.xp_subs.specs.Tables.{line_count};
 
 use std::alloc::{AllocError, Global};
 use xp_cdr::{EndedCall, ExchangeRun, write_detail, write_header};
-use xp_subs::Subs;
 
 /// The text of a live file with these calls, of this run: the names of the fields, and the call detail record of each call.
 ///
@@ -16,17 +13,15 @@ use xp_subs::Subs;
 /// `AllocError` if an allocation fails.
 pub fn live_text(
     alloc: Global,
-    subs: &Subs,
     run: &ExchangeRun,
     calls: &[EndedCall],
 ) -> Result<Vec<u8>, AllocError>
-    requires { All (λ call. HasLines (line_count subs.now) call.charging) calls.now }
-    ensures { IfOk result (λ text. text.items ≡ live_text_of subs.now run.now calls.now) }
+    ensures { IfOk result (λ text. text.items ≡ live_text_of run.now calls.now) }
 {
     let mut text = Vec::new(alloc);
     write_header(&mut text)?;
     for call in calls {
-        write_detail(alloc, subs, run, call, &mut text)?;
+        write_detail(alloc, run, call, &mut text)?;
     }
     Ok(text)
 }

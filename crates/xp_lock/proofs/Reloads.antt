@@ -1,5 +1,5 @@
 -- A reload under the lock.
-use Rattle.std.proofs.Common.{◌≡◌, ◌∙◌, ℕ, ◌≤◌, IfOk, OnErr, OnOk, Result, Ok, Err, List, [], ◌∷◌, ◌++◌, cond, eqb, Bool, true, false, length, refl, ap, sym, subst, append-nil, arith}
+use Rattle.std.proofs.Common.{◌≡◌, ◌∙◌, ℕ, ◌≤◌, IfOk, OnErr, OnOk, Result, Ok, Err, List, [], ◌∷◌, ◌++◌, cond, eqb, Bool, true, false, length, refl, ap, sym, subst, append_assoc, append-nil, arith}
 use Rattle.std.proofs.lemmas.List.Elements.{All-nil}
 use Rattle.std.specs.Prelude.{not, ◌&&◌}
 use Rattle.xp_charge.specs.declared.record.Record.{Record}
@@ -14,7 +14,8 @@ use Rattle.xp_machine.specs.Changes.{all_changed, recorded_by}
 use Rattle.xp_machine.specs.Channel.{is_off}
 use Rattle.xp_machine.specs.World.{World, state_at}
 use Rattle.xp_seats.specs.Handed.{is_raised, is_stall}
-use Rattle.xp_seats.specs.Views.{IsGrownByNone}
+use Rattle.xp_seats.specs.Recording.{Recording}
+use Rattle.xp_seats.specs.Views.{IsGrownByNone, StartsWith}
 use Rattle.xp_step.specs.Exchange.{Advances, Exchange}
 use Rattle.xp_step.specs.Effects.{effects_of}
 use Rattle.xp_step.specs.InForce.{in_force, last_of}
@@ -36,6 +37,12 @@ use Rattle.xp_lock.proofs.Histories.{forced_more}
 pub either_way : {X E V : Type 0} (P : V → Type 0) (result : Result X E) (old new : V) → OnOk result (P new) → OnErr result (new ≡ old) → P old → P new
 either_way P (Ok x) old new done same was = done
 either_way P (Err fault) old new done same was = subst P (sym same) was
+
+-- what the recorder saw goes on from what it saw before, through two calls of which the second may fail
+pub goes_on : {A X E : Type 0} (result : Result X E) (first old new : Recording A) → StartsWith old.seen first.seen → OnOk result (StartsWith new.seen old.seen) → OnErr result (new ≡ old)
+    → StartsWith new.seen first.seen
+goes_on (Ok x) first old new front more same = (front.0 ++ more.0, more.1 ∙ ap (λ xs. xs ++ more.0) front.1 ∙ append_assoc first.seen front.0 more.0)
+goes_on (Err fault) first old new front more same = subst (λ (recorder : Recording _). StartsWith recorder.seen first.seen) (sym same) front
 
 module _ {A : Type 0} where
   module _ (subs : Tables) (history : List (Entry A)) (world : World) (entry : Entry A) (next : World) (moment : ℕ)

@@ -1,6 +1,6 @@
 //! The exchange that threads share.
 
-ghost use Rattle.std.specs.Prelude.{◌≡◌, [], ◌∷◌, ◌++◌, false, All, IfErr, IfNone, IfOk, IfSome, OnErr, OnOk, length, replicate};
+ghost use Rattle.std.specs.Prelude.{◌≡◌, [], ◌∷◌, ◌++◌, None, false, All, IfErr, IfNone, IfOk, IfSome, OnErr, OnOk, length, replicate};
 ghost use mathlib.Core.List.{IsPrefix};
 ghost use Rattle.xp_charge.specs.Lines.{HasLines as NamesLines};
 ghost use Rattle.xp_subs.specs.Tables.{line_count};
@@ -13,13 +13,14 @@ ghost use Rattle.xp_seats.specs.Handed.{is_raised};
 ghost use Rattle.xp_lock.specs.Outgoing.{put_out_to};
 ghost use Rattle.xp_lock.specs.Passes.{GainsEvent, IsLegal};
 ghost use Rattle.xp_seats.specs.Views.{StartsWith};
+ghost use Rattle.xp_step.specs.InForce.{in_force};
 ghost use Rattle.xp_view.specs.Views.{Shows};
 
 use crate::book::Book;
 use crate::fault::{CloseFault, OfferFault};
 use crate::guard::ExchangeGuard;
 use crate::keeper::Keeper;
-use crate::look::Look;
+use crate::look::{Look, Reloading};
 use crate::missing::first_missing;
 use crate::pass::LinePass;
 use crate::receipt::Receipt;
@@ -32,7 +33,7 @@ use std::sync::{Mutex, Wait};
 use xp_charge::Record;
 use xp_seats::{HistoryLength, Name, Recorder};
 use xp_step::{Event, Outgoing};
-use xp_subs::LineNo;
+use xp_subs::{LineNo, Subs};
 
 /// How often a thread tries to take the lock before it sleeps until the lock is free. Between two tries it waits for a moment, and
 /// after some tries lets other threads run.
@@ -184,6 +185,32 @@ impl<N: Name, A: Allocator + Copy> Exchange<N, A> {
         ensures err { OnErr result (recorder.new ≡ recorder.old) }
     {
         self.lock(rt).look(alloc, recorder)
+    }
+
+    /// Takes the lock, hands over the charging records that wait, as `take_records` does, and then puts other subscriptions into
+    /// force at this moment, or tells why not. Where they come into force, the recorder knows a history in which they are.
+    ///
+    /// # Errors
+    ///
+    /// `AllocError` if an allocation fails. Then no record was handed over, nothing has come into force, and the recorder stays as
+    /// it was.
+    pub fn reload<R: Wait>(
+        &self,
+        rt: &R,
+        recorder: &mut Recorder<N, A>,
+        next: Subs,
+        moment: u64,
+    ) -> Result<Reloading<A>, AllocError>
+        ensures taken { IfOk result (λ done. recorder.new.received ≡ recorder.old.received ++ done.records.items) }
+        ensures each { OnOk result (recorder.new.received ≡ records_of recorder.new.seen) }
+        ensures seen { OnOk result (StartsWith recorder.new.seen recorder.old.seen) }
+        ensures legal { OnOk result (IsLegal N.subs recorder.new.seen) }
+        ensures one_each { OnOk result (OneRecordEach N.subs recorder.new.seen (world_after N.subs recorder.new.seen)) }
+        ensures lines { IfOk result (λ done. All (NamesLines (line_count N.subs)) done.records.items) }
+        ensures in_force { IfOk result (λ done. done.refusal ≡ None → in_force N.subs recorder.new.seen ≡ next) }
+        ensures err { OnErr result (recorder.new ≡ recorder.old) }
+    {
+        self.lock(rt).reload(recorder, next, moment)
     }
 
     /// Makes the exchange refuse every later offer.

@@ -116,6 +116,7 @@ impl<'a, N: Name, A: Allocator + Copy> ExchangeGuard<'a, N, A> {
     ) -> Result<Reloading<A>, AllocError>
         ensures taken { IfOk result (λ done. recorder.new.received ≡ recorder.old.received ++ done.records.items) }
         ensures each { OnOk result (recorder.new.received ≡ records_of recorder.new.seen) }
+        ensures seen { OnOk result (StartsWith recorder.new.seen recorder.old.seen) }
         ensures legal { OnOk result (IsLegal N.subs recorder.new.seen) }
         ensures one_each { OnOk result (OneRecordEach N.subs recorder.new.seen (world_after N.subs recorder.new.seen)) }
         ensures lines { IfOk result (λ done. All (NamesLines (line_count N.subs)) done.records.items) }

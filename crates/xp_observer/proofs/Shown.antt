@@ -5,8 +5,8 @@ use Rattle.std.proofs.lemmas.List.{map_push, take_more}
 use Rattle.std.proofs.lemmas.Option.{slice_get_within}
 use Rattle.xp_console.specs.declared.status.LineStatus.{LineStatus}
 use Rattle.xp_observer.specs.declared.lines.NamedLine.{NamedLine}
-use Rattle.xp_observer.specs.Shown.{IsShownAs, LineNames, names_at}
-use Rattle.xp_observer.specs.steps.Shown.{AreShownSoFar, names_in}
+use Rattle.xp_observer.specs.Shown.{IsShownAs, LineNames, names_at, names_in}
+use Rattle.xp_observer.specs.steps.Shown.{AreShownSoFar}
 use Rattle.xp_subs.specs.Tables.{Tables}
 use Rattle.xp_subs.specs.declared.line.Line.{Line}
 use Rattle.xp_view.specs.declared.view.LineWithCall.{LineWithCall}

@@ -8,8 +8,13 @@ use Rattle.xp_console.specs.declared.status.LineState.{LineState}
 use Rattle.xp_console.specs.declared.status.LineState.TheVariants.{OutOfService, Ready, DteWaiting, DceWaiting, DataTransfer, DceClearIndication}
 use Rattle.xp_console.specs.declared.status.LineStatus.{LineStatus}
 use Rattle.xp_machine.specs.declared.view.LineView.{LineView}
+use Rattle.xp_observer.specs.declared.lines.NamedLine.{NamedLine}
 use Rattle.xp_packets.specs.Digits.{text_of}
 use Rattle.xp_sink.specs.Seen.{IsSeenOf}
+use Rattle.xp_step.specs.InForce.{in_force}
+use Rattle.xp_step.specs.Run.{Run}
+use Rattle.xp_step.specs.Worlds.{world_after}
+use Rattle.xp_step.specs.declared.entry.Entry.{Entry}
 use Rattle.xp_subs.specs.Tables.{Tables, station_at}
 use Rattle.xp_subs.specs.declared.line.Line.{Line}
 use Rattle.xp_view.specs.declared.view.ExchangeView.{ExchangeView}
@@ -20,6 +25,10 @@ pub record LineNames : Type 0 where
   pub name : List ℕ
   pub address : List ℕ
   pub station : List ℕ
+
+-- how a line is named that is kept
+abbrev pub names_in : NamedLine → LineNames
+names_in line = record { name = line.name; address = line.address; station = line.station }
 
 -- a line's address is its own if it has one, otherwise its station's
 abbrev pub names_at : Tables → Line → LineNames
@@ -62,9 +71,22 @@ pub record IsStatusOf (names : List LineNames) (view : ExchangeView Alloc) (stat
   pub events_are : status.totals.events ≡ view.entries
   pub stalls_are : status.totals.stalls ≡ view.stalls
 
--- This status shows an exchange of these subscriptions: each line by its own name, as it is seen in the state to which a history of
--- the exchange leads.
+-- These subscriptions have been in force: a history of an exchange that was opened with the first ones leads to them.
+abbrev pub HasBeenInForce : Tables → Tables → Type 0
+HasBeenInForce tables force =
+    (history : List (Entry Alloc)) × Run tables history (world_after tables history) × (in_force tables history ≡ force)
+
+-- lines are named so by subscriptions that have been in force
+abbrev pub AreNamesInForce : Tables → List LineNames → Type 0
+AreNamesInForce tables names = (force : Tables) × HasBeenInForce tables force × (names ≡ names_of force)
+
+-- this status shows what is seen in this view, the lines as subscriptions name them that have been in force
+abbrev pub IsNamedStatusOf : Tables → ExchangeView Alloc → ExchangeStatus → Type 0
+IsNamedStatusOf tables view status = (names : List LineNames) × AreNamesInForce tables names × IsStatusOf names view status
+
+-- This status shows an exchange that was opened with these subscriptions: each line by its own name and by addresses that it has had,
+-- as it is seen in the state to which a history of the exchange leads.
 pub record IsStatusOfExchange (tables : Tables) (status : ExchangeStatus) : Type 0 where
   pub view : ExchangeView Alloc
   pub seen : IsSeenOf tables view
-  pub shows : IsStatusOf (names_of tables) view status
+  pub shows : IsNamedStatusOf tables view status

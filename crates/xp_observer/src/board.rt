@@ -3,46 +3,25 @@
 ghost use Rattle.std.specs.Prelude.{◌≡◌, IfSome, true};
 ghost use Rattle.xp_observer.specs.Shown.{IsStatusOfExchange};
 
+use crate::board_name::BoardName;
+use crate::reloading::{ReloadOutcome, ReloadRequest};
 use std::alloc::{AllocError, Global};
-use std::marker::{Brand, Model, PhantomData};
+use std::marker::{Model, PhantomData};
 use std::sync::atomic::Ordering::SeqCst;
 use std::sync::atomic::{AtomicBool, AtomicIn, Rule};
 use std::sync::{Mutex, Wait};
 use std::thread::Parker;
 use std::time::Duration;
-use xp_console::{ExchangeStatus, StatusSource};
-use xp_sink::ShownExchange;
+use xp_console::{ExchangeStatus, ReloadAnswer, StatusSource};
 
 /// How often the console looks for a status that it asked for, before it gives up.
 const MOST_LOOKS: u32 = 40;
 
+/// How often it looks for what became of a reload, before it gives up.
+const MOST_RELOAD_LOOKS: u32 = 200;
+
 /// For how long it waits between two looks at most, in milliseconds.
 const PATIENCE: u64 = 50;
-
-/// Names a board by the exchange that it shows, and by what holds where it may ask for a stop. A status is put there only where it was
-/// made of what is seen of the exchange, and no other is shown. The two ends are proved for every such name, so one asks for no stop
-/// that the other did not grant.
-pub trait BoardName: ShownExchange {
-    ghost use Rattle.std.specs.declared.net.ip_addr.IpAddr.{IpAddr};
-    ghost use Rattle.http.specs.declared.request.Parts.{Parts};
-    ghost use Rattle.xp_console.specs.Requests.{IsAnswer};
-    ghost use Rattle.xp_console.specs.declared.requests.Answer.TheVariants.{Granted};
-    ghost use Rattle.xp_console.specs.declared.requests.Resource.TheVariants.{Stop};
-
-    // What holds where the board asks for a stop.
-    ghost may_stop: { Type 0 };
-
-    // It holds where a console grants a stop to a request.
-    ghost granted: { (own : IpAddr) → (head : Parts) → IsAnswer own head (Granted Stop) → may_stop };
-}
-
-impl BoardName for Brand {
-    ghost use Rattle.std.specs.Prelude.{⊤};
-
-    ghost may_stop = { ⊤ };
-
-    ghost granted = { λ _ _ _. tt };
-}
 
 /// The rule of the word that asks for a stop: it is 1 only where one may be asked for.
 struct StopWord<B: BoardName> {
@@ -101,13 +80,14 @@ fn put_status<B: BoardName>(status: Option<ExchangeStatus>) -> Option<PutStatus<
     Some(PutStatus::new(status))
 }
 
-/// Where the console asks for a status, or for a stop, and a status is put for it.
+/// Where the console asks for a status, a stop or a reload, and is given a status, and what became of the reload.
 #[derive(Drop)]
 pub struct StatusBoard<B: BoardName> {
     is_wanted: AtomicBool,
     /// 1 where a stop is asked for.
     stop: AtomicIn<StopWord<B>>,
     status: Mutex<Option<PutStatus<B>>>,
+    reload: ReloadRequest<B>,
     /// What the console's thread waits on.
     parker: Parker,
 }
@@ -119,6 +99,7 @@ impl<B: BoardName> StatusBoard<B> {
             is_wanted: AtomicBool::new(false),
             stop: AtomicIn::new(0),
             status: Mutex::new(None),
+            reload: ReloadRequest::new(),
             parker: Parker::new(),
         }
     }
@@ -152,6 +133,50 @@ impl<B: BoardName> StatusBoard<B> {
         requires { B.may_stop }
     {
         self.stop.store(1, SeqCst);
+    }
+
+    /// Whether a reload is asked for. It is taken then: whoever takes it tells by `answer_reload` what became of it. Until that the
+    /// console is given no other one.
+    pub fn take_reload_request(&self) -> bool
+        ensures { result ≡ true → B.may_reload }
+    {
+        self.reload.take()
+    }
+
+    /// Tells the console what became of the reload that was taken. Where none was taken, nothing is told.
+    pub fn answer_reload(&self, outcome: ReloadOutcome) {
+        self.reload.answer(outcome);
+        self.parker.unpark();
+    }
+
+    /// Answers no reload from now on: whoever waits for one is told that the exchange is busy.
+    pub fn close(&self) {
+        self.reload.close();
+        self.parker.unpark();
+    }
+
+    /// Asks for a reload, and waits for what becomes of it, for ten seconds at most. Busy where the last one is not answered yet, or
+    /// this one is not answered in that time, or none is answered any more. One that was not taken by then is withdrawn.
+    fn reload<R: Wait>(&self, rt: &R) -> ReloadAnswer
+        requires { B.may_reload }
+    {
+        if !self.reload.ask() {
+            return ReloadAnswer::Busy;
+        }
+        for _look in 0..MOST_RELOAD_LOOKS {
+            if let Some(outcome) = self.reload.take_outcome() {
+                return outcome.into_answer();
+            }
+            if self.reload.is_closed() {
+                return ReloadAnswer::Busy;
+            }
+            self.wait(rt);
+        }
+        self.reload.withdraw();
+        match self.reload.take_outcome() {
+            Some(outcome) => outcome.into_answer(),
+            None => ReloadAnswer::Busy,
+        }
     }
 
     /// Takes the status that was put last.
@@ -203,9 +228,15 @@ impl<R: Wait, B: BoardName> StatusSource for BoardSource<'_, R, B> {
 
     ghost stops = { λ old new. new ≡ old };
 
+    ghost reloads = { λ old answer new. new ≡ old };
+
     ghost may_stop = { B.may_stop };
 
     ghost granted = { B.granted };
+
+    ghost may_reload = { B.may_reload };
+
+    ghost reload_granted = { B.reload_granted };
 
     /// Asks for a status, and waits for it, for two seconds at most.
     fn status(&mut self, _alloc: Global) -> Result<ExchangeStatus, AllocError> {
@@ -221,5 +252,9 @@ impl<R: Wait, B: BoardName> StatusSource for BoardSource<'_, R, B> {
 
     fn stop(&mut self) {
         self.board.ask_to_stop();
+    }
+
+    fn reload(&mut self) -> ReloadAnswer {
+        self.board.reload(self.rt)
     }
 }

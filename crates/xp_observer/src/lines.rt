@@ -1,8 +1,7 @@
 //! What is shown of a line.
 
 ghost use Rattle.std.specs.Prelude.{◌≡◌, IfOk};
-ghost use Rattle.xp_observer.specs.Shown.{IsShownAs, state_of};
-ghost use Rattle.xp_observer.specs.steps.Shown.{names_in};
+ghost use Rattle.xp_observer.specs.Shown.{IsShownAs, names_in, state_of};
 
 use std::alloc::{AllocError, Global};
 use std::net::SocketAddr;

@@ -1,6 +1,7 @@
 //! What is kept of an exchange besides what it shows of itself.
 
-use crate::lines::LineNotes;
+use crate::ended::NotedCall;
+use crate::lines::{LineNotes, NamedLine};
 use crate::routers::Routers;
 use crate::stations::Stations;
 use std::alloc::{AllocError, Global};
@@ -11,8 +12,8 @@ use xp_console::RefusedCalls;
 use xp_subs::{LineNo, Subs};
 use xp_view::ExchangeView;
 
-/// How many records of ended calls are kept.
-const MOST_RECORDS: usize = 100;
+/// How many ended calls are kept.
+const MOST_ENDED: usize = 100;
 
 /// How a run of the exchange begins.
 #[derive(Clone, Copy, Default, PartialEq, Eq)]
@@ -29,8 +30,8 @@ pub(crate) struct Notes {
     lines: Vec<LineNotes>,
     pub(crate) routers: Routers,
     pub(crate) stations: Stations,
-    /// The records of the calls that ended last, the latest last.
-    pub(crate) records: VecDeque<Record>,
+    /// The calls that ended last, the latest last.
+    pub(crate) ended_last: VecDeque<NotedCall>,
     /// How many calls have ended.
     pub(crate) ended: u64,
     pub(crate) refused: RefusedCalls,
@@ -49,12 +50,12 @@ impl Notes {
         let lines = notes_of_lines(alloc, subs.counts().lines, begin.started)?;
         let routers = Routers::new(alloc, subs)?;
         let stations = Stations::new(alloc, subs)?;
-        let records = VecDeque::with_capacity(alloc, MOST_RECORDS)?;
+        let ended_last = VecDeque::with_capacity(alloc, MOST_ENDED)?;
         Ok(Notes {
             lines,
             routers,
             stations,
-            records,
+            ended_last,
             ended: 0,
             refused: RefusedCalls::default(),
             router_refusals: RefusedCalls::default(),
@@ -86,14 +87,14 @@ impl Notes {
         }
     }
 
-    /// Takes note of the records of calls that have ended.
-    pub(crate) fn note_ended(&mut self, records: &[Record]) {
+    /// Takes note of the records of calls that have ended, of lines that are named so.
+    pub(crate) fn note_ended(&mut self, lines: &[NamedLine], records: &[Record]) {
         for record in records {
-            self.note_record(record);
+            self.note_record(lines, record);
         }
     }
 
-    fn note_record(&mut self, record: &Record) {
+    fn note_record(&mut self, lines: &[NamedLine], record: &Record) {
         self.ended = self.ended.saturating_add(1);
         self.from_callers = self
             .from_callers
@@ -105,11 +106,11 @@ impl Notes {
             self.refused.count(record.cause);
         }
         self.stations.count(record);
-        if self.records.len() >= MOST_RECORDS {
-            self.records.pop_front();
+        if self.ended_last.len() >= MOST_ENDED {
+            self.ended_last.pop_front();
         }
         // There is room for them all.
-        let _ = self.records.push_back(record.copy());
+        let _ = self.ended_last.push_back(NotedCall::of(lines, record));
     }
 }
 

@@ -1,18 +1,17 @@
 //! What is kept to show an operator the exchange.
 
 ghost use Rattle.std.specs.Prelude.{◌≡◌, IfOk, map};
-ghost use Rattle.xp_observer.specs.Shown.{AreShown, IsStatusOf, names_of};
-ghost use Rattle.xp_observer.specs.steps.Shown.{names_in};
+ghost use Rattle.xp_observer.specs.Shown.{AreNamesInForce, AreShown, IsNamedStatusOf, IsStatusOf, names_in, names_of};
 
 use crate::calls::live_calls;
-use crate::ended::ended_call;
 use crate::lines::NamedLine;
+use crate::naming::{Naming, named_lines};
 use crate::notes::{Notes, RunBegin};
 use std::alloc::{AllocError, Global};
 use std::marker::{Model, PhantomData};
 use std::net::SocketAddr;
 use xp_charge::Record;
-use xp_console::{EndedCall, ExchangeStatus, LineStatus, Totals};
+use xp_console::{EndedCall, ExchangeStatus, LineStatus, ReloadCounts, Totals};
 use xp_sink::ShownExchange;
 use xp_subs::{LineNo, Subs};
 use xp_view::ExchangeView;
@@ -25,36 +24,39 @@ pub struct Traffic {
 }
 
 /// What is kept to show an operator the exchange that N names: the names and addresses of its lines, and notes of their peers and
-/// routers, the last records, and sums over all of them.
+/// routers, the last records, and sums over all of them. Contracts see how the lines are named: as subscriptions name them that have
+/// been in force.
 #[derive(Drop)]
 pub struct Observer<N: ShownExchange> {
     /// The moment at which the exchange began to serve, in seconds since 1970.
     started: u64,
     lines: Vec<NamedLine>,
     notes: Notes,
+    reloads: ReloadCounts,
     exchange: PhantomData<N>,
 }
 
 impl<N: ShownExchange> Model for Observer<N> {
-    ghost use Rattle.std.specs.Prelude.{◌≡◌, map};
-    ghost use Rattle.xp_observer.specs.Shown.{names_of};
-    ghost use Rattle.xp_observer.specs.steps.Shown.{names_in};
+    ghost use Rattle.std.specs.Prelude.{List, map};
+    ghost use Rattle.xp_observer.specs.Shown.{AreNamesInForce, LineNames, names_in};
 
-    ghost Value = { Unit {0} };
+    ghost Value = { List LineNames };
 
-    ghost view = { λ _. tt };
+    ghost view = { λ observer. map names_in observer.lines.items };
 
-    ghost invariant = { λ observer. map names_in observer.lines.items ≡ names_of N.tables };
+    ghost invariant = { λ observer. AreNamesInForce N.tables (map names_in observer.lines.items) };
 }
 
 impl<N: ShownExchange> Observer<N> {
-    /// The observer of an exchange of these subscriptions, whose run begins so.
+    /// The observer of an exchange that is opened with these subscriptions, whose run begins so.
     ///
     /// # Errors
     ///
     /// `AllocError` if an allocation fails.
+    #[tactic(auto, using(crate::proofs::Opening::named_at_first))]
     pub fn new(alloc: Global, subs: &Subs, begin: RunBegin) -> Result<Observer<N>, AllocError>
         requires { N.tables ≡ subs.now }
+        ensures { IfOk result (λ observer. observer ≡ names_of subs.now) }
     {
         let lines = named_lines(alloc, subs)?;
         let notes = Notes::new(alloc, subs, begin)?;
@@ -62,39 +64,76 @@ impl<N: ShownExchange> Observer<N> {
             started: begin.started,
             lines,
             notes,
+            reloads: ReloadCounts::default(),
             exchange: PhantomData,
         })
     }
 
+    /// Takes note that other subscriptions came into force at this moment, in seconds since 1970: from now on the lines are named as
+    /// they name them. What was counted of a station goes on where they have a station of its address.
+    pub fn rename(&mut self, naming: Naming, now: u64)
+        requires { AreNamesInForce N.tables naming }
+        ensures { self.new ≡ naming }
+    {
+        let Naming {
+            lines,
+            mut stations,
+        } = naming;
+        stations.go_on(&self.notes.stations);
+        self.notes.stations = stations;
+        self.lines = lines;
+        self.reloads.done = self.reloads.done.saturating_add(1);
+        self.reloads.last = Some(now);
+    }
+
+    /// Takes note that a reload was refused.
+    pub fn reload_refused(&mut self)
+        ensures { self.new ≡ self.old }
+    {
+        self.reloads.refused = self.reloads.refused.saturating_add(1);
+    }
+
     /// Takes note that a line has a connection from or to this peer.
-    pub fn came_up(&mut self, line: LineNo, peer: SocketAddr) {
+    pub fn came_up(&mut self, line: LineNo, peer: SocketAddr)
+        ensures { self.new ≡ self.old }
+    {
         self.notes.set_peer(line, Some(peer));
     }
 
     /// Takes note that a line has lost its connection.
-    pub fn went_down(&mut self, line: LineNo) {
+    pub fn went_down(&mut self, line: LineNo)
+        ensures { self.new ≡ self.old }
+    {
         self.notes.set_peer(line, None);
     }
 
     /// Takes note that a line behind a router has a connection that was made to the router, which is this peer.
-    pub fn router_connected(&mut self, line: LineNo, peer: SocketAddr) {
+    pub fn router_connected(&mut self, line: LineNo, peer: SocketAddr)
+        ensures { self.new ≡ self.old }
+    {
         self.notes.routers.connected(line);
         self.notes.set_peer(line, Some(peer));
     }
 
     /// Takes note that no connection to the router of a line could be made, at this moment in seconds since 1970.
-    pub fn router_failed(&mut self, line: LineNo, now: u64) {
+    pub fn router_failed(&mut self, line: LineNo, now: u64)
+        ensures { self.new ≡ self.old }
+    {
         self.notes.routers.failed(line, now);
     }
 
     /// Takes note that a call of a router was refused with this cause, since no line took it.
-    pub fn router_refused(&mut self, cause: u8) {
+    pub fn router_refused(&mut self, cause: u8)
+        ensures { self.new ≡ self.old }
+    {
         self.notes.router_refusals.count(cause);
     }
 
-    /// Takes note of the records of calls that have ended.
-    pub fn note_ended(&mut self, records: &[Record]) {
-        self.notes.note_ended(records);
+    /// Takes note of the records of calls that have ended, while the lines are named as they were as the calls ended.
+    pub fn note_ended(&mut self, records: &[Record])
+        ensures { self.new ≡ self.old }
+    {
+        self.notes.note_ended(&self.lines, records);
     }
 
     /// What is shown of the exchange at this moment, in seconds since 1970, where this can be seen of it, so many records wait to be
@@ -111,7 +150,9 @@ impl<N: ShownExchange> Observer<N> {
         waiting: usize,
         traffic: Traffic,
     ) -> Result<ExchangeStatus, AllocError>
-        ensures shows { IfOk result (IsStatusOf (names_of N.tables) view.now) }
+        ensures shows { IfOk result (IsStatusOf self.old view.now) }
+        ensures named { IfOk result (IsNamedStatusOf N.tables view.now) }
+        ensures same { self.new ≡ self.old }
         ensures moment { IfOk result (λ status. status.moment ≡ now) }
         ensures waiting { IfOk result (λ status. status.totals.records_waiting ≡ waiting) }
     {
@@ -126,27 +167,9 @@ impl<N: ShownExchange> Observer<N> {
             recent: recent_calls(alloc, &self.lines, &self.notes)?,
             stations: self.notes.stations.calls(alloc)?,
             totals,
+            reloads: self.reloads,
         })
     }
-}
-
-/// The lines of these subscriptions, in order.
-fn named_lines(alloc: Global, subs: &Subs) -> Result<Vec<NamedLine>, AllocError>
-    ensures { IfOk result (λ lines. map names_in lines.items ≡ names_of subs.now) }
-{
-    let count = subs.counts().lines;
-    let mut lines = Vec::with_capacity(alloc, count)?;
-    for place in 0..count {
-        let number = place as LineNo;
-        let line = subs.line(number);
-        let named = NamedLine {
-            name: line.name.copy(),
-            address: subs.address_of(number).copy(),
-            station: subs.station(line.station).address.copy(),
-        };
-        lines.push(named)?;
-    }
-    Ok(lines)
 }
 
 /// What is shown of each line, in order.
@@ -180,9 +203,9 @@ fn recent_calls(
     lines: &[NamedLine],
     notes: &Notes,
 ) -> Result<Vec<EndedCall>, AllocError> {
-    let mut recent = Vec::with_capacity(alloc, notes.records.len())?;
-    for record in &notes.records {
-        recent.push(ended_call(alloc, lines, record)?)?;
+    let mut recent = Vec::with_capacity(alloc, notes.ended_last.len())?;
+    for call in &notes.ended_last {
+        recent.push(call.shown(alloc, lines)?)?;
     }
     Ok(recent)
 }

@@ -68,6 +68,28 @@ impl Stations {
         }
     }
 
+    /// Goes on with what was counted of stations of the same addresses.
+    pub(crate) fn go_on(&mut self, before: &Stations) {
+        for (place, station) in self.notes.iter_mut().enumerate() {
+            if let Some(known) = before.of_address(place, &station.address) {
+                station.from = known.from;
+                station.to = known.to;
+                station.refused = known.refused;
+            }
+        }
+    }
+
+    /// The station of this address, which is first looked for at this place.
+    fn of_address(&self, place: usize, address: &Digits) -> Option<&StationNotes> {
+        match self.notes.get(place) {
+            Some(station) if station.address == *address => Some(station),
+            _ => self
+                .notes
+                .iter()
+                .find(|station| station.address == *address),
+        }
+    }
+
     /// What is shown of each station, in the order of the file.
     pub(crate) fn calls(&self, alloc: Global) -> Result<Vec<StationCalls>, AllocError> {
         let mut calls = Vec::with_capacity(alloc, self.notes.len())?;

@@ -1,10 +1,11 @@
 //! One run of a row.
 
-use crate::row::Row;
-use std::alloc::Allocator;
+use crate::row::{Row, TablesFile};
+use std::alloc::{Allocator, Global};
 use std::fs;
 use std::rt::Files;
 use xp_exchange::ReplayFault;
+use xp_script::NamedTables;
 use xp_tasks::{TaskFailure, perform, subscriptions};
 
 /// What was written, and how it ended.
@@ -36,9 +37,31 @@ impl Outcome {
 pub fn run<R: AllocGlobal + Files, A: Allocator + Copy>(rt: &R, row: &Row, memory: A) -> Outcome {
     let mut text = Vec::new(rt.alloc());
     let file = fs::read_to_string(rt, row.file.as_str());
-    let ended = match subscriptions(rt.alloc(), &file) {
-        Ok(subs) => perform(memory, row.task, subs, row.script.as_slice(), &mut text),
+    let ended = match named_tables(rt.alloc(), &row.tables) {
+        Ok(named) => match subscriptions(rt.alloc(), &file) {
+            Ok(subs) => perform(
+                memory,
+                row.task,
+                subs,
+                &named,
+                row.script.as_slice(),
+                &mut text,
+            ),
+            Err(failure) => Err(failure),
+        },
         Err(failure) => Err(failure),
     };
     Outcome { text, ended }
+}
+
+/// The subscriptions of these files.
+fn named_tables(alloc: Global, files: &[TablesFile]) -> Result<Vec<NamedTables<'_>>, TaskFailure> {
+    let mut named = Vec::new(alloc);
+    for file in files {
+        let tables = NamedTables::new(alloc, &file.name, &file.text)?;
+        if named.push(tables).is_err() {
+            return Err(TaskFailure::Memory);
+        }
+    }
+    Ok(named)
 }

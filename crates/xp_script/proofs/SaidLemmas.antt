@@ -2,6 +2,7 @@
 use Rattle.std.proofs.Common.{◌≡◌, ℕ, ◌+◌, ◌-◌, List, [], ◌∷◌, Option, Some, None, IsSome, ◌&&◌, codes, is_some, take, drop, length, refl, sym, ap, ◌∙◌}
 use Rattle.std.specs.List.{position}
 use Rattle.xp_subs.specs.Tables.{Tables, same, line_named_of}
+use Rattle.xp_script.specs.NamedText.{NamedText}
 use Rattle.xp_script.specs.Command.{brings_octets_by, is_space, octets_of, said_by, said_with, words}
 use Rattle.xp_script.proofs.DigitLemmas.{octets_of-spaced}
 use Rattle.xp_script.proofs.WordLemmas.{words-cut, words-uncut}
@@ -27,19 +28,19 @@ module _ {A : Type 0} where
   said_with-none verb None = refl
   said_with-none verb (Some line) = refl
 
-  said_longer : (tables : Tables) (verb name text : List ℕ) → IsLonger text → octets_of text ≡ None
-      → said_by {A = A} tables (verb ∷ name ∷ words text) ≡ said_with verb (line_named_of tables name) (octets_of text)
-  said_longer tables verb name text longer none = rw (longer.are, none) (sym (said_with-none verb (line_named_of tables name)))
+  said_longer : (tables : Tables) (named : List NamedText) (verb name text : List ℕ) → IsLonger text → octets_of text ≡ None
+      → said_by {A = A} tables named (verb ∷ name ∷ words text) ≡ said_with verb (line_named_of tables name) (octets_of text)
+  said_longer tables named verb name text longer none = rw (longer.are, none) (sym (said_with-none verb (line_named_of tables name)))
 
-  said_from : (tables : Tables) (verb name text : List ℕ) (place : Option ℕ) → position is_space text ≡ place
-      → said_by {A = A} tables (verb ∷ name ∷ words text) ≡ said_with verb (line_named_of tables name) (octets_of text)
-  said_from tables verb name text None none = rw (words-uncut text none) refl
-  said_from tables verb name text (Some place) space = said_longer tables verb name text (spaced_longer text place space) (octets_of-spaced text place space)
+  said_from : (tables : Tables) (named : List NamedText) (verb name text : List ℕ) (place : Option ℕ) → position is_space text ≡ place
+      → said_by {A = A} tables named (verb ∷ name ∷ words text) ≡ said_with verb (line_named_of tables name) (octets_of text)
+  said_from tables named verb name text None none = rw (words-uncut text none) refl
+  said_from tables named verb name text (Some place) space = said_longer tables named verb name text (spaced_longer text place space) (octets_of-spaced text place space)
 
   -- by octets, where what is left is digits alone
-  pub said-cut : (tables : Tables) (verb name text : List ℕ)
-      → said_by {A = A} tables (verb ∷ name ∷ words text) ≡ said_with verb (line_named_of tables name) (octets_of text)
-  said-cut tables verb name text = said_from tables verb name text (position is_space text) refl
+  pub said-cut : (tables : Tables) (named : List NamedText) (verb name text : List ℕ)
+      → said_by {A = A} tables named (verb ∷ name ∷ words text) ≡ said_with verb (line_named_of tables name) (octets_of text)
+  said-cut tables named verb name text = said_from tables named verb name text (position is_space text) refl
 
 brings_at : (tables : Tables) (verb name text : List ℕ) (place : Option ℕ) → position is_space text ≡ place → IsSome (octets_of text)
     → brings_octets_by tables (verb ∷ name ∷ words text) ≡ same verb (codes "in") && is_some (line_named_of tables name)

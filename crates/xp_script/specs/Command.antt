@@ -7,9 +7,10 @@ use Rattle.hex.specs.Hex.{decode_of}
 use Rattle.hex.specs.declared.error.FromHexError.{FromHexError}
 use Rattle.xp_subs.specs.Tables.{Tables, same, line_named_of}
 use Rattle.xp_script.specs.declared.command.Command.{Command}
-use Rattle.xp_script.specs.declared.command.Command.TheVariants.{Nothing, Up, Down, Expire, In, At}
+use Rattle.xp_script.specs.declared.command.Command.TheVariants.{Nothing, Up, Down, Expire, In, At, Reload}
 use Rattle.xp_script.specs.declared.fault.LineFault.{LineFault}
 use Rattle.xp_script.specs.declared.fault.LineFault.TheVariants.{Faulty, Memory}
+use Rattle.xp_script.specs.NamedText.{NamedText, number_named}
 
 -- the most octets of a line, without its line feed
 abbrev pub longest : ℕ
@@ -95,22 +96,34 @@ module _ {A : Type 0} where
   said_at None = None
   said_at (Some moment) = Some (At moment)
 
-  abbrev pub said_by : Tables → List (List ℕ) → Option (Command A)
-  said_by tables (verb ∷ name ∷ []) =
-      if same verb (codes "at") then said_at (moment_of name) else said_of verb (line_named_of tables name)
-  said_by tables (verb ∷ name ∷ digits ∷ []) = said_with verb (line_named_of tables name) (octets_of digits)
-  said_by tables _ = None
+  -- `tables`: the subscriptions of this name come into force
+  abbrev pub said_reload : Option ℕ → Option (Command A)
+  said_reload None = None
+  said_reload (Some number) = Some (Reload number)
+
+  abbrev pub said_by : Tables → List NamedText → List (List ℕ) → Option (Command A)
+  said_by tables named (verb ∷ name ∷ []) =
+      if same verb (codes "at") then said_at (moment_of name)
+      else if same verb (codes "tables") then said_reload (number_named named name)
+      else said_of verb (line_named_of tables name)
+  said_by tables named (verb ∷ name ∷ digits ∷ []) = said_with verb (line_named_of tables name) (octets_of digits)
+  said_by tables named _ = None
 
   -- what a line says, if it is no fault
-  abbrev pub said : Tables → List ℕ → Option (Command A)
-  said tables line =
+  abbrev pub said : Tables → List NamedText → List ℕ → Option (Command A)
+  said tables named line =
       if nat_lt longest (length line) then None
       else if is_skipped line then Some Nothing
-      else said_by tables (words line)
+      else said_by tables named (words line)
 
   -- what `Command::read` answers
-  abbrev pub Reads : Tables → List ℕ → Result (Command A) LineFault → Type 0
-  Reads tables line result = Answers (said tables line) result
+  abbrev pub Reads : Tables → List NamedText → List ℕ → Result (Command A) LineFault → Type 0
+  Reads tables named line result = Answers (said tables named line) result
+
+  -- the number of the subscriptions that a command brings into force
+  abbrev pub reload_of : Command A → Option ℕ
+  reload_of (Reload number) = Some number
+  reload_of command = None
 
   -- every line that is named is one of so many
   abbrev pub HasLine : ℕ → Command A → Type 0
@@ -120,3 +133,9 @@ module _ {A : Type 0} where
   HasLine count (Expire line) = line < count
   HasLine count (In line octets) = line < count
   HasLine count (At moment) = Unit {0}
+  HasLine count (Reload number) = Unit {0}
+
+  -- the subscriptions that it brings into force are of so many
+  abbrev pub HasTables : ℕ → Command A → Type 0
+  HasTables count (Reload number) = number < count
+  HasTables count command = Unit {0}

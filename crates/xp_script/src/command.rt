@@ -1,7 +1,7 @@
 //! What a line of a script says.
 
-ghost use Rattle.std.specs.Prelude.{◌≡◌, ◌&&◌, IfOk, IsSome, IsTrue, codes, is_some};
-ghost use Rattle.xp_script.specs.Command.{octets_of, Answers, brings_octets, brings_octets_by, HasLine, is_skipped, LacksMemory, Reads, moment_of, said_at, said_by, said_of, said_with, words};
+ghost use Rattle.std.specs.Prelude.{◌≡◌, ◌&&◌, IfOk, IsSome, IsTrue, codes, is_some, length};
+ghost use Rattle.xp_script.specs.Command.{octets_of, Answers, brings_octets, brings_octets_by, HasLine, HasTables, is_skipped, LacksMemory, Reads, moment_of, reload_of, said_at, said_by, said_of, said_reload, said_with, words};
 ghost use Rattle.xp_subs.specs.Tables.{line_count, same};
 
 use crate::digits::{are_digits, read_digits};
@@ -9,6 +9,7 @@ use crate::fault::LineFault;
 use crate::input_octets::InputOctets;
 use crate::line::line_named;
 use crate::moment::moment_of;
+use crate::named_tables::{NamedTables, number_named};
 use crate::words::cut_word;
 use std::alloc::{Allocator, Global};
 use xp_subs::{LineNo, Subs};
@@ -18,6 +19,9 @@ pub const MAX_LINE_OCTETS: usize = 8192;
 
 /// What a line begins with that tells a moment.
 const AT: &[u8] = b"at";
+
+/// What a line begins with that brings other subscriptions into force.
+const TABLES: &[u8] = b"tables";
 
 /// What a line of a script asks for.
 #[derive(Drop, PartialEq)]
@@ -34,19 +38,28 @@ pub enum Command<A: Allocator = Global> {
     In(LineNo, InputOctets<A>),
     /// The events that follow have this moment, in seconds. It may be less than the one before.
     At(u64),
+    /// The subscriptions with this number, among those that have names, come into force.
+    Reload(usize),
 }
 
 impl<A: Allocator> Command<A> {
-    /// Reads a line, without its line feed. Octets that come in are put into this vector, whatever it holds.
+    /// Reads a line, without its line feed. It may name these subscriptions. Octets that come in are put into this vector,
+    /// whatever it holds.
     ///
     /// # Errors
     ///
     /// `Faulty` where the line is too long or says nothing that a script may say; `Memory` where there is none for
     /// the octets that come in.
     #[inline(always)]
-    pub fn read(subs: &Subs, line: &[u8], memory: Vec<u8, A>) -> Result<Command<A>, LineFault>
-        ensures said { Reads subs.now line.now result }
+    pub fn read(
+        subs: &Subs,
+        named: &[NamedTables<'_>],
+        line: &[u8],
+        memory: Vec<u8, A>,
+    ) -> Result<Command<A>, LineFault>
+        ensures said { Reads subs.now named.now line.now result }
         ensures line { IfOk result (HasLine (line_count subs.now)) }
+        ensures tables { IfOk result (HasTables (length named.now)) }
         ensures memory { LacksMemory result → IsTrue (brings_octets subs.now line.now) }
     {
         if line.len() > MAX_LINE_OCTETS {
@@ -55,7 +68,17 @@ impl<A: Allocator> Command<A> {
         if is_skipped(line) {
             return Ok(Command::Nothing);
         }
-        read_words(subs, line, memory)
+        read_words(subs, named, line, memory)
+    }
+
+    /// The number of the subscriptions that it brings into force, if it does.
+    pub fn reload(&self) -> Option<usize>
+        ensures { result ≡ reload_of self.now }
+    {
+        match self {
+            Command::Reload(number) => Some(*number),
+            _ => None,
+        }
     }
 }
 
@@ -69,11 +92,13 @@ fn is_skipped(line: &[u8]) -> bool
 #[inline(always)]
 fn read_words<A: Allocator>(
     subs: &Subs,
+    named: &[NamedTables<'_>],
     text: &[u8],
     memory: Vec<u8, A>,
 ) -> Result<Command<A>, LineFault>
-    ensures said { Answers (said_by subs.now (words text.now)) result }
+    ensures said { Answers (said_by subs.now named.now (words text.now)) result }
     ensures line { IfOk result (HasLine (line_count subs.now)) }
+    ensures tables { IfOk result (HasTables (length named.now)) }
     ensures memory { LacksMemory result → IsTrue (brings_octets_by subs.now (words text.now)) }
 {
     let Some((verb, rest)) = cut_word(text) else {
@@ -83,6 +108,7 @@ fn read_words<A: Allocator>(
         // A further space is no digit.
         Some((name, digits)) => about_octets(verb, line_named(subs, name), digits, memory),
         None if verb == AT => about_moment(rest).ok_or(LineFault::Faulty),
+        None if verb == TABLES => about_reload(number_named(named, rest)).ok_or(LineFault::Faulty),
         None => about_line(verb, line_named(subs, rest)).ok_or(LineFault::Faulty),
     }
 }
@@ -105,6 +131,13 @@ fn about_moment<A: Allocator>(digits: &[u8]) -> Option<Command<A>>
     ensures { result ≡ said_at (moment_of digits.now) }
 {
     Some(Command::At(moment_of(digits)?))
+}
+
+/// `tables`, of subscriptions with this number.
+fn about_reload<A: Allocator>(number: Option<usize>) -> Option<Command<A>>
+    ensures { result ≡ said_reload number }
+{
+    Some(Command::Reload(number?))
 }
 
 /// `in` of a line, with the octets that come in.

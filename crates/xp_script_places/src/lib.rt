@@ -1,10 +1,13 @@
-//! What was wanted at the faulty line of a script, in words for a person.
+//! What was wanted at the faulty line of a script, and why subscriptions that a line names cannot come into force, in words for a
+//! person.
 #![tactic(auto)]
 
 mod kept_lines;
+mod refused;
 mod shown;
 mod trial;
 mod wanted;
 
 pub use kept_lines::KeptLines;
+pub use refused::refused_tables;
 pub use wanted::wanted_at;

@@ -1,8 +1,11 @@
 //! Parts of a faulty line, each tried in a line of its own.
 
 use std::alloc::{AllocError, Global};
-use xp_script::{Command, LineFault};
+use xp_script::{Command, LineFault, NamedTables};
 use xp_subs::Subs;
+
+/// What a line begins with that brings subscriptions into force. A trial does not find it where none have a name.
+const TABLES: &[u8] = b"tables";
 
 /// What a line of a script wants behind its first word.
 #[derive(Clone, Copy, PartialEq, Eq)]
@@ -13,16 +16,19 @@ pub(crate) enum Form {
     Octets,
     /// A moment.
     Moment,
+    /// The name of subscriptions.
+    Tables,
 }
 
 /// What reads lines of scripts, to which parts of a faulty line are tried.
 #[derive(Clone, Copy)]
-pub(crate) struct Trial<'a> {
+pub(crate) struct Trial<'a, 'n> {
     pub(crate) alloc: Global,
     pub(crate) subs: &'a Subs,
+    pub(crate) named: &'a [NamedTables<'n>],
 }
 
-impl Trial<'_> {
+impl Trial<'_, '_> {
     /// Whether this is a line of a script.
     pub(crate) fn is_line(&self, line: &[u8]) -> Result<bool, AllocError> {
         Ok(self.read(line)?.is_some())
@@ -45,6 +51,9 @@ impl Trial<'_> {
         if self.are_line(&[word, name, b"00"])? {
             return Ok(Some(Form::Octets));
         }
+        if word == TABLES {
+            return Ok(Some(Form::Tables));
+        }
         Ok(None)
     }
 
@@ -59,7 +68,7 @@ impl Trial<'_> {
 
     /// What a line asks for. `None` where it is no line of a script.
     fn read(&self, line: &[u8]) -> Result<Option<Command>, AllocError> {
-        match Command::read(self.subs, line, Vec::new(self.alloc)) {
+        match Command::read(self.subs, self.named, line, Vec::new(self.alloc)) {
             Ok(command) => Ok(Some(command)),
             Err(LineFault::Faulty) => Ok(None),
             Err(LineFault::Memory) => Err(AllocError),

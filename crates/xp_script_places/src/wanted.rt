@@ -4,19 +4,24 @@ use crate::shown::Shown;
 use crate::trial::{Form, Trial};
 use std::alloc::{AllocError, Global};
 use std::fmt::Write;
-use xp_script::MAX_LINE_OCTETS;
+use xp_script::{MAX_LINE_OCTETS, NamedTables};
 use xp_subs::Subs;
 
 /// What was wanted at the first of these lines that is no line of a script over these subscriptions, as one line without its end:
-/// `no line is named "x9"`. Empty where each of them is a line of a script.
+/// `no line is named "x9"`. Lines may bring the named subscriptions into force. Empty where each of them is a line of a script.
 ///
 /// What is told is found by reading the line again with a part of it changed. No contract says what the text tells.
 ///
 /// # Errors
 ///
 /// An allocation failed.
-pub fn wanted_at(alloc: Global, subs: &Subs, lines: &[u8]) -> Result<String, AllocError> {
-    let trial = Trial { alloc, subs };
+pub fn wanted_at(
+    alloc: Global,
+    subs: &Subs,
+    named: &[NamedTables<'_>],
+    lines: &[u8],
+) -> Result<String, AllocError> {
+    let trial = Trial { alloc, subs, named };
     let mut told = String::new(alloc);
     for line in lines.split(|octet| *octet == b'\n') {
         if !trial.is_line(line)? {
@@ -28,7 +33,7 @@ pub fn wanted_at(alloc: Global, subs: &Subs, lines: &[u8]) -> Result<String, All
 }
 
 /// What was wanted at a faulty line.
-fn push_wanted(trial: Trial<'_>, told: &mut String, line: &[u8]) -> Result<(), AllocError> {
+fn push_wanted(trial: Trial<'_, '_>, told: &mut String, line: &[u8]) -> Result<(), AllocError> {
     if line.len() > MAX_LINE_OCTETS {
         return write!(told, "the line is longer than {MAX_LINE_OCTETS} octets");
     }
@@ -63,7 +68,7 @@ fn words_of<'a>(alloc: Global, line: &'a [u8]) -> Result<Vec<&'a [u8]>, AllocErr
 
 /// What was wanted at a faulty line of these words, by its first word.
 fn push_form(
-    trial: Trial<'_>,
+    trial: Trial<'_, '_>,
     told: &mut String,
     line: &[u8],
     words: &[&[u8]],
@@ -80,9 +85,11 @@ fn push_form(
         ),
         (Some(Form::Line), [name]) => push_name(told, name),
         (Some(Form::Octets), [name, digits]) => push_octets(trial, told, word, name, digits),
+        (Some(Form::Tables), [name]) => write!(told, "no tables are named {}", Shown(name)),
         (Some(Form::Moment), _) => push_usage(told, word, "N", line),
         (Some(Form::Line), _) => push_usage(told, word, "LINE", line),
         (Some(Form::Octets), _) => push_usage(told, word, "LINE HEX", line),
+        (Some(Form::Tables), _) => push_usage(told, word, "NAME", line),
         (None, _) => push_any(told, line),
     }
 }
@@ -91,7 +98,7 @@ fn push_form(
 fn push_any(told: &mut String, line: &[u8]) -> Result<(), AllocError> {
     write!(
         told,
-        "wanted: up LINE, down LINE, expire LINE, in LINE HEX, at N, or a comment (#), found {}",
+        "wanted: up LINE, down LINE, expire LINE, in LINE HEX, at N, tables NAME, or a comment (#), found {}",
         Shown(line)
     )
 }
@@ -113,7 +120,7 @@ fn push_name(told: &mut String, name: &[u8]) -> Result<(), AllocError> {
 
 /// The name of a line is wanted, or digits behind it.
 fn push_octets(
-    trial: Trial<'_>,
+    trial: Trial<'_, '_>,
     told: &mut String,
     word: &[u8],
     name: &[u8],

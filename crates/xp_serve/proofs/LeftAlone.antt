@@ -1,16 +1,18 @@
 -- What is written of records in doubt, and what is told beside it.
-use Rattle.std.proofs.Common.{◌≡◌, ◌≢◌, ◌⊎◌, ℕ, List, [], ◌++◌, Bool, true, false, Option, Some, None, IfSome, Result, Ok, Err, ap, append-nil, append_assoc, flat_map, inl, inr, refl, subst, sym, true≢false, ◌∙◌}
+use Rattle.std.proofs.Common.{◌≡◌, ◌≢◌, ◌⊎◌, ℕ, List, [], ◌∷◌, ◌++◌, Bool, true, false, Option, Some, None, IfSome, Result, Ok, Err, ap, append-nil, append_assoc, flat_map, inl, inr, refl, subst, sym, true≢false, ◌∙◌}
+use Rattle.std.proofs.lemmas.List.Elements.{All-nil}
 use Rattle.std.specs.Io.KnownBytes.{Appends}
 use Rattle.xp_cdr.specs.Details.{detail_text}
-use Rattle.xp_cdr.specs.Ended.{charging_records}
+use Rattle.xp_cdr.specs.Ended.{IsNamedBy, charging_records}
 use Rattle.xp_cdr.specs.declared.ended.EndedCall.{EndedCall}
 use Rattle.xp_cdr.specs.declared.run.ExchangeRun.{ExchangeRun}
 use Rattle.xp_core.specs.Records.{records_of}
-use Rattle.xp_exchange.proofs.Bytes.{appends_nothing}
+use Rattle.xp_writing.proofs.Bytes.{appends_nothing}
 use Rattle.xp_keeping.specs.Details.{AreKept, GoesOnAs, IsFirstOf, Keeping, first_keeping}
-use Rattle.xp_keeping.specs.Doubt.{AreDoubted, IsToldBy, WritesDoubted}
+use Rattle.xp_keeping.specs.Doubt.{AreDoubted, IsOfRun, WritesDoubted}
 use Rattle.xp_keeping.specs.Printing.{AppendsFront, Prints}
-use Rattle.xp_keeping.specs.Queued.{AreKeptOrLeft, IsLastOf, Queued, told as told_short}
+use Rattle.xp_keeping.specs.Queued.{AreKeptOrLeft, IsLastOf, Queued, first_queued, told as told_short}
+use Rattle.xp_keeping.specs.Told.{AreToldInTurn}
 use Rattle.xp_keeping.specs.declared.keep_fault.KeepFault.{KeepFault}
 use Rattle.xp_keeping.specs.declared.keep_fault.KeepFault.TheVariants as faults
 use Rattle.xp_serve.specs.Ends.{failure_by}
@@ -160,15 +162,13 @@ module _ (tables : Tables) (run : ExchangeRun) (after : Queued Keeping) (records
       record { before = keeping.ledger.given; given_are = sym (append-nil keeping.ledger.given); synced_is = kept.1.synced ∙ kept.1.taken }
 
   -- the keeper that came back tells by the subscriptions of the run, and its beginning
-  told_by_last : (last : Option Keeping) (came : Result (Unit {0}) KeepFault) → after.first ≡ first_keeping tables run
-      → AreKeptOrLeft AreKept GoesOnAs last after records came → IfSome last (IsToldBy tables run)
+  told_by_last : (last : Option Keeping) (came : Result (Unit {0}) KeepFault) → after.first ≡ first_keeping run
+      → AreKeptOrLeft AreKept GoesOnAs last after records came → IfSome last (IsOfRun run)
   told_by_last None came first are = tt
-  told_by_last (Some keeping) came first by = (
-    by.keeps_on.1 ∙ ap (λ (begun : Keeping). begun.ledger.subs) first,
-    by.keeps_on.2 ∙ ap (λ (begun : Keeping). begun.ledger.run) first,
-  )
+  told_by_last (Some keeping) came first by = by.keeps_on ∙ ap (λ (begun : Keeping). begun.ledger.run) first
 
-  module _ (served : Served) (is : IsServed tables served) (are_all : charging_records records ≡ records_of served.book.history) where
+  module _ (served : Served) (is : IsServed tables served) (are_all : charging_records records ≡ records_of served.book.history)
+      (later : List Tables) (named : after.named ≡ tables ∷ later) (told_in_turn : AreToldInTurn after.named records) where
     -- all are kept, and nothing is written
     kept_alone : (came : Result (Unit {0}) KeepFault) (contents : Option (List ℕ)) (result : Result (Unit {0}) ServeFailure)
         → AreKeptOrLeft AreKept GoesOnAs after.last after records came → result ≡ told served.book.subs served.early_end came
@@ -177,6 +177,9 @@ module _ (tables : Tables) (run : ExchangeRun) (after : Queued Keeping) (records
     kept_alone (Ok done) contents result kept told_is says = record {
       calls = records;
       of_run = inr (served, is, are_all);
+      later = later;
+      named = named;
+      told = told_in_turn;
       found = records;
       first = ([], sym (append-nil records));
       all = λ other. refl;
@@ -191,18 +194,21 @@ module _ (tables : Tables) (run : ExchangeRun) (after : Queued Keeping) (records
     -- some are in doubt, and are written
     written_alone : (came : Result (Unit {0}) KeepFault) (before contents : Option (List ℕ)) (result : Result (Unit {0}) ServeFailure) (written : Result (Unit {0}) KeepFault)
         → AreKeptOrLeft AreKept GoesOnAs after.last after records came → result ≡ told served.book.subs served.early_end came
-        → says_all_kept result ≡ false → WritesDoubted tables run after before contents written
+        → says_all_kept result ≡ false → WritesDoubted run after before contents written
         → LeavesAlone tables run after before contents (told_beside result written)
     written_alone (Ok done) before contents result written kept told_is says writes =
         absurd (true≢false (sym (end_says served.book.subs served.early_end) ∙ sym (ap says_all_kept told_is) ∙ says))
     written_alone (Err fault) before contents result written kept told_is says writes =
-        let text = flat_map (detail_text tables run) writes.records in
+        let text = flat_map (detail_text run) writes.records in
         let in_all = found_in after.last fault kept in
         let wants : fault ≡ faults.Memory → told_beside result written ≡ Err Memory =
         λ short. ap (λ came. told_beside came written) (told_is ∙ ap (λ kept_as. failed (failure_to_keep kept_as)) short) ∙ short_beside written in
         record {
           calls = records;
           of_run = inr (served, is, are_all);
+          later = later;
+          named = named;
+          told = told_in_turn;
           found = in_all.found;
           first = in_all.first;
           all = λ other. in_all.all (λ short. other (wants short));
@@ -214,17 +220,28 @@ module _ (tables : Tables) (run : ExchangeRun) (after : Queued Keeping) (records
           whole = all_written before contents text result written writes.written;
         }
 
+-- no call was told
+none_told : (tables : Tables) (named : List Tables) → named ≡ tables ∷ [] → AreToldInTurn named []
+none_told tables named are = subst (λ all. AreToldInTurn all []) (sym are) ([], [], refl, All-nil (IsNamedBy tables), refl)
+
 module _ (tables : Tables) (run : ExchangeRun) (after : Queued Keeping) (result : Result (Unit {0}) ServeFailure) where
-  pub told_by : ServesIntoFile tables run after result → IfSome after.last (IsToldBy tables run)
-  told_by (inl unserved) = subst (λ (queued : Queued Keeping). IfSome queued.last (IsToldBy tables run)) (sym unserved.0) tt
+  -- the subscriptions of a keeper that is as it was
+  named_first : after ≡ first_queued tables (first_keeping run) faults.Details → after.named ≡ tables ∷ []
+  named_first same = ap (λ (queued : Queued Keeping). queued.named) same
+
+  pub told_by : ServesIntoFile tables run after result → IfSome after.last (IsOfRun run)
+  told_by (inl unserved) = subst (λ (queued : Queued Keeping). IfSome queued.last (IsOfRun run)) (sym unserved.0) tt
   told_by (inr served) =
-      told_by_last tables run after served.2.kept_is.0 after.last served.2.keeping served.2.keeps_on.1 served.2.kept_is.2
+      told_by_last tables run after served.2.kept_is.0 after.last served.2.keeping served.2.keeps_on.first served.2.kept_is.2.kept_is
 
   pub nothing_written : (contents : Option (List ℕ)) → ServesIntoFile tables run after result → says_all_kept result ≡ true
       → LeavesAlone tables run after contents contents result
   nothing_written contents (inl unserved) says = record {
     calls = [];
     of_run = inl (refl, unserved.1);
+    later = [];
+    named = named_first unserved.0;
+    told = none_told tables after.named (named_first unserved.0);
     found = [];
     first = ([], refl);
     all = λ other. refl;
@@ -236,10 +253,11 @@ module _ (tables : Tables) (run : ExchangeRun) (after : Queued Keeping) (result 
     whole = λ no_memory no_output. appends_nothing contents;
   }
   nothing_written contents (inr served) says =
-      kept_alone tables run after served.2.kept_is.0 served.0 served.1 served.2.kept_is.1 served.2.keeping contents result served.2.kept_is.2 served.2.told_is says
+      kept_alone tables run after served.2.kept_is.0 served.0 served.1 served.2.kept_is.1 served.2.keeps_on.later served.2.keeps_on.named served.2.kept_is.2.in_turn
+      served.2.keeping contents result served.2.kept_is.2.kept_is served.2.told_is says
 
   pub doubted_written : (before contents : Option (List ℕ)) (written : Result (Unit {0}) KeepFault) → ServesIntoFile tables run after result
-      → says_all_kept result ≡ false → WritesDoubted tables run after before contents written
+      → says_all_kept result ≡ false → WritesDoubted run after before contents written
       → LeavesAlone tables run after before contents (told_beside result written)
   doubted_written before contents written (inl unserved) says writes =
       let short : result ≡ Err Memory = unserved_short tables result unserved.1 says in
@@ -249,6 +267,9 @@ module _ (tables : Tables) (run : ExchangeRun) (after : Queued Keeping) (result 
       record {
         calls = [];
         of_run = inl (refl, subst (IsUnserved tables) (sym is_short) tt);
+        later = [];
+        named = named_first unserved.0;
+        told = none_told tables after.named (named_first unserved.0);
         found = [];
         first = ([], refl);
         all = λ other. refl;
@@ -256,9 +277,9 @@ module _ (tables : Tables) (run : ExchangeRun) (after : Queued Keeping) (result 
         in_doubt = writes.doubted;
         last = ([], sym no_records);
         none = λ all. no_records;
-        front = front_of_all before contents (flat_map (detail_text tables run) writes.records) written writes.written;
-        whole = all_written before contents (flat_map (detail_text tables run) writes.records) result written writes.written;
+        front = front_of_all before contents (flat_map (detail_text run) writes.records) written writes.written;
+        whole = all_written before contents (flat_map (detail_text run) writes.records) result written writes.written;
       }
   doubted_written before contents written (inr served) says writes =
-      written_alone tables run after served.2.kept_is.0 served.0 served.1 served.2.kept_is.1 served.2.keeping before contents result written
-      served.2.kept_is.2 served.2.told_is says writes
+      written_alone tables run after served.2.kept_is.0 served.0 served.1 served.2.kept_is.1 served.2.keeps_on.later served.2.keeps_on.named served.2.kept_is.2.in_turn
+      served.2.keeping before contents result written served.2.kept_is.2.kept_is served.2.told_is says writes

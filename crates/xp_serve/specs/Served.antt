@@ -27,7 +27,7 @@ abbrev pub IsDownIfStopped : Tables → EndReason → Pass Alloc → Type 0
 IsDownIfStopped tables why pass = why ≡ Stopped → IsLineDown tables IsAnyLink (first_pass pass.line) pass
 
 -- Each line gave its pass back as it ended, with what its links brought, and why it ended is told, in the order of lines; one that was stopped is down. The history
--- is a run of the exchange machine. In it each line has the entries of what it handed in, as its pass knows them, and there are no others but stalls.
+-- is a run of the exchange machine. In it each line has the entries of what it handed in, as its pass knows them, and there are no others but stalls and reloads.
 -- What a line took are the first outputs to it, as many as the book counts.
 pub record IsServed (tables : Tables) (served : Served) : Type 0 where
   pub subs : served.book.subs ≡ tables

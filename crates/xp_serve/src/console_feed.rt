@@ -1,11 +1,13 @@
 //! What a console is fed with.
 
-ghost use Rattle.std.specs.Prelude.{◌≡◌, true};
+ghost use Rattle.std.specs.Prelude.{◌≡◌, OnOk, true};
+ghost use Rattle.xp_sink.specs.InForce.{IsInForce};
 ghost use Rattle.xp_sink.specs.Seen.{IsSeenOf};
 
 use std::marker::PhantomData;
 use xp_charge::Record;
 use xp_sink::ShownExchange;
+use xp_subs::Subs;
 use xp_tcp::Notice;
 use xp_view::ExchangeView;
 
@@ -18,6 +20,9 @@ pub trait ConsoleFeed: Drop {
 
     // What holds where the console asks the exchange to stop.
     ghost may_stop: { Type 0 };
+
+    // What holds where the console asks for other subscriptions.
+    ghost may_reload: { Type 0 };
 
     /// Takes note of what became of a line's connections.
     fn note(&mut self, notice: &Notice);
@@ -35,6 +40,18 @@ pub trait ConsoleFeed: Drop {
     /// Whether the console asks the exchange to stop.
     fn is_asked_to_stop(&self) -> bool
         ensures { result ≡ true → may_stop };
+
+    /// Takes the console's request for other subscriptions, if there is one. Whoever takes it answers it.
+    fn takes_reload(&mut self) -> bool
+        ensures { result ≡ true → may_reload };
+
+    /// Tells the console what became of a request for other subscriptions, whoever asked for them: what they change, or why they
+    /// are not in force. Lines and stations are shown by those in force from now on.
+    fn reloaded(&mut self, told: Result<String, String>, in_force: &Subs)
+        requires { OnOk told (IsInForce tables in_force.now) };
+
+    /// Takes no further request.
+    fn end(&mut self);
 }
 
 /// There is no console of the exchange that N names.
@@ -56,6 +73,8 @@ impl<N: ShownExchange> ConsoleFeed for NoConsole<N> {
 
     ghost may_stop = { ⊥ };
 
+    ghost may_reload = { ⊥ };
+
     fn note(&mut self, _notice: &Notice) {}
 
     fn note_ended(&mut self, _records: &[Record]) {}
@@ -69,4 +88,12 @@ impl<N: ShownExchange> ConsoleFeed for NoConsole<N> {
     fn is_asked_to_stop(&self) -> bool {
         false
     }
+
+    fn takes_reload(&mut self) -> bool {
+        false
+    }
+
+    fn reloaded(&mut self, _told: Result<String, String>, _in_force: &Subs) {}
+
+    fn end(&mut self) {}
 }

@@ -13,7 +13,6 @@ use std::thread::Threads;
 use xp_cdr::{ExchangeRun, RecordFile};
 use xp_keeping::{DetailKeeper, KeepFault, QueuedKeeper, write_doubted};
 use xp_listening::ServeFailure;
-use xp_subs::Subs;
 
 /// Writes the call detail records of the records in doubt on the output, if any are, and nothing else, and tells what serving came
 /// to. The records are told as those of this run.
@@ -24,19 +23,18 @@ use xp_subs::Subs;
 /// wanting before.
 pub fn settle<F: RecordFile, L: Log + Drop, R: Threads + Wait + Copy + Drop, W: Write>(
     alloc: Global,
-    subs: &Subs,
     run: &ExchangeRun,
     end: ServeEnd<QueuedKeeper<DetailKeeper<F, L>, R>>,
     output: &mut W,
 ) -> Result<(), ServeFailure>
-    requires { ServesIntoFile subs.now run.now end.keeper end.outcome }
-    ensures { LeavesAlone subs.now run.now end.keeper (W.contents output.old) (W.contents output.new) result }
+    requires { ServesIntoFile end.keeper.opening run.now end.keeper end.outcome }
+    ensures { LeavesAlone end.keeper.opening run.now end.keeper (W.contents output.old) (W.contents output.new) result }
 {
     let ServeEnd { keeper, outcome } = end;
     if says_all_kept(&outcome) {
         return outcome;
     }
-    let written = write_doubted(alloc, subs, run, &keeper, output);
+    let written = write_doubted(alloc, run, &keeper, output);
     told_beside(outcome, written)
 }
 

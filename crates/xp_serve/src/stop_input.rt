@@ -1,4 +1,4 @@
-//! A pipe whose end asks serving to stop.
+//! A pipe whose end asks serving to stop, and through which other subscriptions are asked for.
 
 use libc::net::{POLLIN, poll};
 use libc::types::pollfd;
@@ -34,17 +34,23 @@ impl Signal {
     }
 }
 
+/// The line that asks for other subscriptions.
+const RELOAD: &[u8] = b"reload";
+
 /// Standard input, as a pipe that whoever started the program holds open. Where it ends, serving is to stop: the pipe was closed,
-/// or who held it has ended. The launcher tells of a signal through it.
+/// or who held it has ended. The launcher tells of a signal through it, and asks for other subscriptions by a line `reload`.
 #[derive(Clone, Copy, Default)]
 pub struct StopInput {
     has_ended: bool,
+    /// Whether other subscriptions were asked for.
+    asks_for_reload: bool,
     /// The signal that the launcher has told of.
     signal: Option<Signal>,
 }
 
 impl StopInput {
-    /// Whether standard input has ended. It does not wait. What came is dropped, but for the name of a signal.
+    /// Whether standard input has ended. It does not wait. What came is dropped, but for the name of a signal and the line that
+    /// asks for other subscriptions.
     pub fn has_ended(&mut self) -> bool {
         if !self.has_ended && has_something() {
             self.read();
@@ -62,13 +68,30 @@ impl StopInput {
         }
     }
 
+    /// Takes the request for other subscriptions, if one came.
+    pub fn takes_reload(&mut self) -> bool {
+        let asks = self.asks_for_reload;
+        self.asks_for_reload = false;
+        asks
+    }
+
     /// Reads once. It is at its end where there was nothing more, or the input is broken.
     fn read(&mut self) {
         let mut octets = [0; PIECE];
         match libc::read(STANDARD_INPUT, &mut octets) {
             0 => self.has_ended = true,
-            count if count > 0 => self.signal = Signal::in_octets(&octets).or(self.signal),
+            count if count > 0 => self.take_lines(&octets),
             _ => self.has_ended = is_broken(),
+        }
+    }
+
+    /// Takes note of the lines that came.
+    fn take_lines(&mut self, octets: &[u8]) {
+        for line in octets.split(|octet| *octet == b'\n') {
+            if line == RELOAD {
+                self.asks_for_reload = true;
+            }
+            self.signal = Signal::in_octets(line).or(self.signal);
         }
     }
 }

@@ -1,9 +1,10 @@
 //! A watch, beside which what lines receive and send is written to a capture file.
 
 use crate::attending::Watch;
+use crate::offered::OfferedSubs;
 use std::sync::Wait;
 use xp_charge::Record;
-use xp_sink::Received;
+use xp_sink::{NotInForce, Received};
 use xp_tracing::TraceThread;
 use xp_view::ExchangeView;
 
@@ -24,6 +25,8 @@ impl<T: Watch, R: Wait> TracedWatch<T, R> {
 impl<T: Watch, R: Wait + Drop> Watch for TracedWatch<T, R> {
     ghost tables = { T.tables };
 
+    ghost has_handed = { λ watch. T.has_handed watch.watch };
+
     fn look(&mut self, waiting: usize) -> Received {
         if let Some(trace) = &self.trace {
             trace.begin();
@@ -41,6 +44,14 @@ impl<T: Watch, R: Wait + Drop> Watch for TracedWatch<T, R> {
 
     fn see(&mut self, view: &ExchangeView, waiting: usize) {
         self.watch.see(view, waiting);
+    }
+
+    fn next_subs(&mut self) -> Option<OfferedSubs> {
+        self.watch.next_subs()
+    }
+
+    fn reloaded(&mut self, outcome: Result<(), NotInForce>) {
+        self.watch.reloaded(outcome);
     }
 
     fn end(&mut self, is_kept: bool) {

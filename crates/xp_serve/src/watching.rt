@@ -1,7 +1,11 @@
 //! What an operator asks of a serving exchange, and is told by it.
 
+ghost use Rattle.std.specs.Prelude.{OnOk};
+ghost use Rattle.xp_sink.specs.InForce.{IsInForce};
+
 use crate::attending::Watch;
 use crate::console_feed::ConsoleFeed;
+use crate::offered::{OfferedSubs, SubsSource};
 use crate::stop_input::StopInput;
 use log::Log;
 use std::alloc::{AllocError, Global};
@@ -11,7 +15,7 @@ use xp_charge::Record;
 use xp_clock::WallClock;
 use xp_file::Name;
 use xp_keeping::OperatorLog;
-use xp_sink::Received;
+use xp_sink::{NotInForce, Received};
 use xp_subs::{LineNo, Subs};
 use xp_tcp::{Notice, Notices};
 use xp_view::ExchangeView;
@@ -19,53 +23,63 @@ use xp_view::ExchangeView;
 /// How many notices are told at most in one look.
 const MOST_TOLD: usize = 64;
 
-/// Tells the notices of the lines' threads, and looks whether serving is to stop.
+/// Tells the notices of the lines' threads, and looks whether serving is to stop, or other subscriptions are to come into force.
 #[derive(Drop)]
-pub struct OperatorWatch<L: Log, F: ConsoleFeed> {
+pub struct OperatorWatch<L: Log, F: ConsoleFeed, S: SubsSource> {
     /// The names of the lines, in order.
     names: Vec<Name>,
     notices: Arc<Notices>,
     /// The input whose end asks serving to stop, if there is one.
     stop: Option<StopInput>,
     console: F,
+    /// Where other subscriptions come from.
+    source: S,
     /// What is told before all else, once the lines are served.
     opening: Option<String>,
     /// Whether the stop was told.
     is_told: bool,
     clock: WallClock,
     log: OperatorLog<L>,
+    alloc: Global,
 }
 
-impl<L: Log + Drop, F: ConsoleFeed> OperatorWatch<L, F> {
-    /// The watch over the lines of these subscriptions. Where `stop` is given, serving stops as that input ends. It feeds a
-    /// console, and serving stops where that asks for it.
+impl<L: Log + Drop, F: ConsoleFeed, S: SubsSource> OperatorWatch<L, F, S> {
+    /// The watch over the lines of the subscriptions in force, which feeds a console. Serving stops where that asks for it, and other
+    /// subscriptions come from this source where that asks for them.
     ///
     /// # Errors
     ///
     /// `AllocError` if an allocation fails.
     pub fn new(
         alloc: Global,
-        subs: &Subs,
+        source: S,
         notices: Arc<Notices>,
-        stop: Option<StopInput>,
         console: F,
         clock: WallClock,
         log: OperatorLog<L>,
-    ) -> Result<OperatorWatch<L, F>, AllocError> {
+    ) -> Result<OperatorWatch<L, F, S>, AllocError> {
         Ok(OperatorWatch {
-            names: names_of(alloc, subs)?,
+            names: names_of(alloc, source.subs())?,
             notices,
-            stop,
+            stop: None,
             console,
+            source,
             opening: None,
             is_told: false,
             clock,
             log,
+            alloc,
         })
     }
 
+    /// The same watch, where serving stops as this input ends, if there is one, and other subscriptions may be asked for through it.
+    pub fn with_stop(mut self, stop: Option<StopInput>) -> OperatorWatch<L, F, S> {
+        self.stop = stop;
+        self
+    }
+
     /// The same watch, which tells this before all else, once the lines are served.
-    pub fn with_opening(mut self, opening: String) -> OperatorWatch<L, F> {
+    pub fn with_opening(mut self, opening: String) -> OperatorWatch<L, F, S> {
         self.opening = Some(opening);
         self
     }
@@ -136,8 +150,33 @@ impl<L: Log + Drop, F: ConsoleFeed> OperatorWatch<L, F> {
     }
 }
 
-impl<L: Log + Drop, F: ConsoleFeed> Watch for OperatorWatch<L, F> {
+impl<L: Log + Drop, F: ConsoleFeed, S: SubsSource> OperatorWatch<L, F, S> {
+    /// Whether the console asks for other subscriptions, or the input does.
+    fn takes_reload(&mut self) -> bool {
+        let console_asks = self.console.takes_reload();
+        let input_asks = match &mut self.stop {
+            Some(input) => input.takes_reload(),
+            None => false,
+        };
+        console_asks || input_asks
+    }
+
+    /// Tells the operator, on the log and at the console, what became of other subscriptions.
+    fn tell_reload(&mut self, now: u64, told: Result<String, String>)
+        requires { OnOk told (IsInForce F.tables (S.in_force self.old.source)) }
+    {
+        match &told {
+            Ok(text) => self.log.info(now, format_args!("{text}")),
+            Err(reason) => self.log.warn(now, format_args!("not reloaded: {reason}")),
+        }
+        self.console.reloaded(told, self.source.subs());
+    }
+}
+
+impl<L: Log + Drop, F: ConsoleFeed, S: SubsSource> Watch for OperatorWatch<L, F, S> {
     ghost tables = { F.tables };
+
+    ghost has_handed = { λ watch. S.has_read watch.source };
 
     fn look(&mut self, _waiting: usize) -> Received {
         let now = self.clock.now();
@@ -163,7 +202,29 @@ impl<L: Log + Drop, F: ConsoleFeed> Watch for OperatorWatch<L, F> {
         self.console.show(now, view, waiting);
     }
 
-    fn end(&mut self, _is_kept: bool) {}
+    fn next_subs(&mut self) -> Option<OfferedSubs> {
+        if !self.takes_reload() {
+            return None;
+        }
+        let now = self.clock.now();
+        match self.source.read(self.alloc, now) {
+            Ok(offered) => Some(offered),
+            Err(reason) => {
+                self.tell_reload(now, Err(reason));
+                None
+            }
+        }
+    }
+
+    fn reloaded(&mut self, outcome: Result<(), NotInForce>) {
+        let now = self.clock.now();
+        let told = self.source.take_note(self.alloc, outcome);
+        self.tell_reload(now, told);
+    }
+
+    fn end(&mut self, _is_kept: bool) {
+        self.console.end();
+    }
 }
 
 /// The names of the lines, in order.

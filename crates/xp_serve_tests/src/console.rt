@@ -10,21 +10,30 @@ use std::net::{IpAddr, Ipv4Addr};
 use std::random::RandomSource;
 use std::test::Fail;
 use xp_console::{
-    ConsoleService, ExchangeStatus, LineState, LineStatus, RefusedCalls, StatusSource, Totals,
+    ConsoleService, ExchangeStatus, LineState, LineStatus, RefusedCalls, ReloadAnswer,
+    ReloadCounts, StatusSource, Totals,
 };
 
-/// Shows one moment again and again.
+/// Shows one moment again and again. A reload changes three stations.
 #[derive(Drop)]
-struct PaperSource;
+struct PaperSource {
+    alloc: Global,
+}
 
 impl StatusSource for PaperSource {
     ghost shows = { λ _ _ _. ⊤ };
 
     ghost stops = { λ _ _. ⊤ };
 
+    ghost reloads = { λ _ _ _. ⊤ };
+
     ghost may_stop = { ⊤ };
 
-    ghost granted = { λ _ _ _. tt };
+    ghost granted = { λ _ _ _ _. tt };
+
+    ghost may_reload = { ⊤ };
+
+    ghost reload_granted = { λ _ _ _ _. tt };
 
     fn status(&mut self, alloc: Global) -> Result<ExchangeStatus, AllocError> {
         let mut lines = Vec::with_capacity(alloc, 1)?;
@@ -46,10 +55,22 @@ impl StatusSource for PaperSource {
             recent: Vec::new(alloc),
             stations: Vec::new(alloc),
             totals: totals(),
+            reloads: ReloadCounts {
+                done: 4,
+                refused: 1,
+                last: Some(1_090_000),
+            },
         })
     }
 
     fn stop(&mut self) {}
+
+    fn reload(&mut self) -> ReloadAnswer {
+        match String::from_str(self.alloc, "3 stations changed") {
+            Ok(text) => ReloadAnswer::Done(text),
+            Err(_) => ReloadAnswer::Busy,
+        }
+    }
 }
 
 fn totals() -> Totals {
@@ -81,7 +102,7 @@ fn answered<R: AllocGlobal + RandomSource>(rt: &R, request: &[u8]) -> io::Result
     let mut service = ConsoleService {
         alloc,
         own: IpAddr::V4(Ipv4Addr::LOCALHOST),
-        source: PaperSource,
+        source: PaperSource { alloc },
     };
     serve(
         &mut connection,
@@ -115,11 +136,22 @@ fn table(rt: HostRuntime) -> Result<(), Fail> {
 }
 
 const METRICS: &[u8] =
-    b"\ngonukire_stalls_total 2\n# HELP gonukire_records_waiting Records of ended calls that are not written yet.\n# TYPE gonukire_records_waiting gauge\ngonukire_records_waiting 3\n# HELP gonukire_partial_records Calls of the run before that got a partial record.\n# TYPE gonukire_partial_records gauge\ngonukire_partial_records 5\n";
+    b"\ngonukire_stalls_total 2\n# HELP gonukire_records_waiting Records of ended calls that are not written yet.\n# TYPE gonukire_records_waiting gauge\ngonukire_records_waiting 3\n# HELP gonukire_partial_records Calls of the run before that got a partial record.\n# TYPE gonukire_partial_records gauge\ngonukire_partial_records 5\n# HELP gonukire_reloads_total Reloads of the subscription file, by what became of them.\n# TYPE gonukire_reloads_total counter\ngonukire_reloads_total{result=\"done\"} 4\ngonukire_reloads_total{result=\"refused\"} 1\n";
 
 #[test]
 fn metrics(rt: HostRuntime) -> Result<(), Fail> {
     let answer = answered(&rt, b"GET /metrics HTTP/1.1\r\nHost: localhost\r\n\r\n")?;
     assert!(rt; answer.as_slice().ends_with(METRICS));
+    Ok(())
+}
+
+#[test]
+fn reload(rt: HostRuntime) -> Result<(), Fail> {
+    let answer = answered(
+        &rt,
+        b"POST /reload HTTP/1.1\r\nHost: localhost\r\nX-Gonukire: reload\r\nContent-Length: 0\r\n\r\n",
+    )?;
+    assert!(rt; answer.as_slice().starts_with(b"HTTP/1.1 200 OK\r\n"));
+    assert!(rt; answer.as_slice().ends_with(b"\r\n\r\n3 stations changed\n"));
     Ok(())
 }

@@ -1,5 +1,6 @@
 //! Tests of what no run of the program shows: addresses of other machines, notices for which there is no room, records and traces on
-//! writers that fail, a link without a call, the age of days, what is shown of a view that is made by hand.
+//! writers that fail, a link without a call, the age of days, what is shown of a view that is made by hand, a reload between two
+//! threads.
 #![tactic(auto)]
 
 #[cfg(test)]
@@ -16,5 +17,7 @@ mod observed;
 mod paper;
 #[cfg(test)]
 mod printing;
+#[cfg(test)]
+mod reloads;
 #[cfg(test)]
 mod tracing;

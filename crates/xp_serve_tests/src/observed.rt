@@ -12,7 +12,7 @@ use xp_charge::Record;
 use xp_console::{ExchangeStatus, LineState, Party};
 use xp_core::CallView;
 use xp_machine::LineView;
-use xp_observer::{Observer, RunBegin, Traffic};
+use xp_observer::{Naming, Observer, RunBegin, Traffic};
 use xp_packets::{Digits, End};
 use xp_sink::ShownExchange;
 use xp_subs::{LineNo, Subs};
@@ -132,7 +132,11 @@ fn record(number: u64, called: Option<LineNo>, cause: u8) -> Option<Record> {
     })
 }
 
-/// What is shown after a connection of a1 came, one of b1 came and went, and two calls have ended.
+/// When the subscriptions were read again.
+const RELOADED: u64 = 1_250;
+
+/// What is shown after a connection of a1 came, one of b1 came and went, two calls have ended, and the subscriptions were read again,
+/// once with the same lines and stations, and once with a fault.
 fn status(alloc: Global) -> Result<ExchangeStatus, Fail> {
     let subs = Subs::read(alloc, THREE_STATIONS)?;
     status_of::<Brand>(alloc, &subs)
@@ -147,15 +151,36 @@ fn status_of<N: ShownExchange>(alloc: Global, subs: &Subs) -> Result<ExchangeSta
     observer.came_up(0, peer);
     observer.came_up(1, peer);
     observer.went_down(1);
-    let ended = record(1, Some(1), 0).ok_or("no digits")?;
-    let refused = record(2, None, 11).ok_or("no digits")?;
-    observer.note_ended(&[ended, refused]);
+    note_calls(&mut observer)?;
+    read_again(alloc, subs, &mut observer)?;
     observer.router_refused(1);
     let traffic = Traffic {
         received: 50,
         sent: 60,
     };
     Ok(observer.status(alloc, NOW, &view(alloc)?, 4, traffic)?)
+}
+
+/// Two calls have ended, of which one was refused.
+fn note_calls<N: ShownExchange>(observer: &mut Observer<N>) -> Result<(), Fail> {
+    let ended = record(1, Some(1), 0).ok_or("no digits")?;
+    let refused = record(2, None, 11).ok_or("no digits")?;
+    observer.note_ended(&[ended, refused]);
+    Ok(())
+}
+
+/// The subscriptions are read again, once with the same lines and stations, and once with a fault.
+fn read_again<N: ShownExchange>(
+    alloc: Global,
+    subs: &Subs,
+    observer: &mut Observer<N>,
+) -> Result<(), Fail>
+    requires { N.tables ≡ subs.now }
+{
+    let naming = Naming::of(alloc, subs)?;
+    observer.rename(naming, RELOADED);
+    observer.reload_refused();
+    Ok(())
 }
 
 /// The name and the address of a line.
@@ -247,6 +272,11 @@ fn sums(rt: HostRuntime) -> Result<(), Fail> {
     assert_eq!(rt; (totals.events, totals.stalls), (40, 2));
     assert_eq!(rt; (totals.records_waiting, totals.partial_records), (4, 6));
     assert_eq!(rt; (totals.octets_received, totals.octets_sent), (50, 60));
+    let reloads = status.reloads;
+    assert_eq!(rt;
+        (reloads.done, reloads.refused, reloads.last),
+        (1, 1, Some(RELOADED))
+    );
     for (station, (from, to, refused)) in status
         .stations
         .iter()

@@ -1,9 +1,5 @@
 //! Charging records on a writer that fails.
 
-ghost use Rattle.std.specs.Prelude.{IfSome};
-ghost use Rattle.xp_charge.specs.Lines.{HasLines};
-ghost use Rattle.xp_subs.specs.Tables.{line_count};
-
 use crate::paper::Paper;
 use std::alloc::Global;
 use std::test::Fail;
@@ -26,9 +22,7 @@ const PRINTED: [(usize, Result<(), KeepFault>); 3] = [
 ];
 
 /// A call from a1 to b1.
-fn call(subs: &Subs, number: u64) -> Option<EndedCall>
-    ensures { IfSome result (λ call. HasLines (line_count subs.now) call.charging) }
-{
+fn call(subs: &Subs, number: u64) -> Option<EndedCall> {
     let called = subs.line_named("b1")?;
     let caller = subs.line_named("a1")?;
     let charging = Record {
@@ -45,26 +39,20 @@ fn call(subs: &Subs, number: u64) -> Option<EndedCall>
         connected: None,
         ended: 0,
     };
-    Some(EndedCall {
-        charging,
-        ended_by: EndedBy::Call,
-    })
+    Some(EndedCall::of(subs, &charging, EndedBy::Call))
 }
 
 /// Two calls.
-fn two_calls(subs: &Subs) -> Option<(EndedCall, EndedCall)>
-    ensures first { IfSome result (λ calls. HasLines (line_count subs.now) calls.0.charging) }
-    ensures second { IfSome result (λ calls. HasLines (line_count subs.now) calls.1.charging) }
-{
+fn two_calls(subs: &Subs) -> Option<(EndedCall, EndedCall)> {
     let first = call(subs, 1)?;
     let second = call(subs, 2)?;
     Some((first, second))
 }
 
 /// The printer of two calls on a writer that takes so many writes.
-fn printed(alloc: Global, subs: Subs, writes: u64) -> Option<RecordPrinter<Paper>> {
-    let (first, second) = two_calls(&subs)?;
-    let mut printer = RecordPrinter::new(alloc, subs, Paper::new(alloc, writes));
+fn printed(alloc: Global, subs: &Subs, writes: u64) -> Option<RecordPrinter<Paper>> {
+    let (first, second) = two_calls(subs)?;
+    let mut printer = RecordPrinter::new(alloc, Paper::new(alloc, writes));
     printer.print(&[first]);
     printer.print(&[second]);
     Some(printer)
@@ -74,7 +62,7 @@ fn printed(alloc: Global, subs: Subs, writes: u64) -> Option<RecordPrinter<Paper
 fn writers_that_fail(rt: HostRuntime) -> Result<(), Fail> {
     for (writes, (length, outcome)) in PRINTED.iter().enumerate() {
         let subs = Subs::read(rt.alloc(), THREE_STATIONS)?;
-        let printer = printed(rt.alloc(), subs, writes as u64).ok_or("no call")?;
+        let printer = printed(rt.alloc(), &subs, writes as u64).ok_or("no call")?;
         assert_eq!(rt; printer.outcome(), *outcome);
         assert_eq!(rt; printer.into_writer().text.as_slice(), &TEXT[..*length]);
     }

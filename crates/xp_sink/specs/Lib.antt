@@ -1,2 +1,3 @@
+pub mod InForce
 pub mod Seen
 pub mod steps

@@ -1,9 +1,12 @@
 //! Where the charging records of an exchange go as calls end, and who sees it meanwhile.
 
-ghost use Rattle.std.specs.Prelude.{◌≡◌, ◌++◌, All};
+ghost use Rattle.std.specs.Prelude.{◌≡◌, ◌++◌, All, IfSome, OnErr, OnOk};
 ghost use Rattle.xp_charge.specs.Lines.{HasLines};
+ghost use Rattle.xp_sink.specs.InForce.{AreInForce};
 ghost use Rattle.xp_sink.specs.Seen.{IsSeen};
+ghost use Rattle.xp_subs.specs.Tables.{Tables, line_count};
 
+use crate::next_subs::{NextSubs, NotInForce};
 use xp_charge::Record;
 use xp_view::ExchangeView;
 
@@ -28,8 +31,14 @@ pub trait RecordSink: Drop {
     // How many lines there are. Each record names lines with lower numbers.
     ghost lines: { Self → ℕ };
 
-    // The subscriptions of the exchange that the sink is shown.
+    // The subscriptions with which the exchange was opened that the sink is shown.
     ghost tables: { Self → Tables };
+
+    // The subscriptions by which the sink tells the records that it is given.
+    ghost named_by: { Self → Tables };
+
+    // The sink has handed out these subscriptions last, to come into force.
+    ghost has_handed: { Self → Tables → Type 0 };
 
     // What stays the same of a sink from one moment to a later one, whatever it is given in between.
     ghost keeps: { Self → Self → Type 0 };
@@ -41,6 +50,8 @@ pub trait RecordSink: Drop {
         ensures received { received self.new ≡ received self.old ++ records.items }
         ensures lines { lines self.new ≡ lines self.old }
         ensures tables { tables self.new ≡ tables self.old }
+        ensures named { named_by self.new ≡ named_by self.old }
+        ensures handed { (next : Tables) → has_handed self.old next → has_handed self.new next }
         ensures keeps { keeps self.old self.new };
 
     /// Called by the recording thread at least ten times a second, also while no calls end. It may write what waits, and may
@@ -49,6 +60,7 @@ pub trait RecordSink: Drop {
         ensures received { received self.new ≡ received self.old }
         ensures lines { lines self.new ≡ lines self.old }
         ensures tables { tables self.new ≡ tables self.old }
+        ensures named { named_by self.new ≡ named_by self.old }
         ensures keeps { keeps self.old self.new };
 
     /// Whether the sink wants to see the exchange now. The recording thread asks at least ten times a second.
@@ -58,6 +70,30 @@ pub trait RecordSink: Drop {
     /// then are those that the sink was given so far. It is called only where the sink wanted that.
     fn see(&mut self, view: ExchangeView)
         requires seen { IsSeen (tables self.old) (received self.old) view }
+        ensures received { received self.new ≡ received self.old }
+        ensures lines { lines self.new ≡ lines self.old }
+        ensures tables { tables self.new ≡ tables self.old }
+        ensures named { named_by self.new ≡ named_by self.old }
+        ensures keeps { keeps self.old self.new };
+
+    /// Hands out other subscriptions, which are to come into force now, if there are any. The recording thread asks at least ten
+    /// times a second. It does not hold the exchange's lock, so the sink may read files.
+    fn next_subs(&mut self) -> Option<NextSubs>
+        ensures handed { IfSome result (λ next. has_handed self.new next.subs) }
+        ensures received { received self.new ≡ received self.old }
+        ensures lines { lines self.new ≡ lines self.old }
+        ensures tables { tables self.new ≡ tables self.old }
+        ensures named { named_by self.new ≡ named_by self.old }
+        ensures keeps { keeps self.old self.new };
+
+    /// Is told what became of the subscriptions that the sink handed out last, behind the records of the calls that ended before
+    /// that. Where they are in force, the charging records at that moment are those that it was given so far, and it tells further
+    /// ones by them.
+    fn reloaded(&mut self, outcome: Result<(), NotInForce>)
+        requires lines { lines self.old ≡ line_count (tables self.old) }
+        requires in_force { OnOk outcome ((next : Tables) × has_handed self.old next × AreInForce (tables self.old) (received self.old) next) }
+        ensures named { OnOk outcome ((next : Tables) → has_handed self.old next → named_by self.new ≡ next) }
+        ensures as_before { OnErr outcome (named_by self.new ≡ named_by self.old) }
         ensures received { received self.new ≡ received self.old }
         ensures lines { lines self.new ≡ lines self.old }
         ensures tables { tables self.new ≡ tables self.old }

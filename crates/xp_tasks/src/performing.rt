@@ -18,6 +18,7 @@ use std::alloc::{Allocator, Global};
 use std::io;
 use std::io::{ErrorKind, Read, Write};
 use xp_exchange::replay;
+use xp_script::NamedTables;
 use xp_subs::Subs;
 
 /// The subscriptions that the text of a file sets up.
@@ -36,7 +37,8 @@ pub fn subscriptions(alloc: Global, text: &io::Result<String>) -> Result<Subs, T
     }
 }
 
-/// Performs a task with these subscriptions. What was written is flushed, also after a fault.
+/// Performs a task with these subscriptions. Lines of a script may bring the named ones into force. What was written is
+/// flushed, also after a fault.
 ///
 /// # Errors
 ///
@@ -45,16 +47,17 @@ pub fn perform<A: Allocator + Copy, R: Read + Drop, W: Write>(
     alloc: A,
     task: Task,
     subs: Subs,
+    named: &[NamedTables<'_>],
     reader: R,
     writer: &mut W,
 ) -> Result<(), TaskFailure>
     ensures checked { task ≡ Check → OnOk result (Appends (W.contents writer.old) (W.contents writer.new) (set_up_text subs ++ codes "\n")) }
     ensures refused { task ≡ Check → IfErr result (λ failure. failure ≡ Output) }
-    ensures replayed { task ≡ Replay → IfSome (R.remaining reader) (λ script. (text : List ℕ) × Appends (W.contents writer.old) (W.contents writer.new) text × (ended : Result (Unit {0}) Fault) × ReplaysAlone A subs script ended text × Tells ended result) }
+    ensures replayed { task ≡ Replay → IfSome (R.remaining reader) (λ script. (text : List ℕ) × Appends (W.contents writer.old) (W.contents writer.new) text × (ended : Result (Unit {0}) Fault) × ReplaysAlone A subs named.now script ended text × Tells ended result) }
 {
     match task {
         Task::Check => check(&subs, writer),
-        Task::Replay => replay_script(alloc, subs, reader, writer),
+        Task::Replay => replay_script(alloc, subs, named, reader, writer),
     }
 }
 
@@ -71,12 +74,13 @@ fn check<W: Write>(subs: &Subs, writer: &mut W) -> Result<(), TaskFailure>
 fn replay_script<A: Allocator + Copy, R: Read + Drop, W: Write>(
     alloc: A,
     subs: Subs,
+    named: &[NamedTables<'_>],
     reader: R,
     writer: &mut W,
 ) -> Result<(), TaskFailure>
-    ensures { IfSome (R.remaining reader) (λ script. (text : List ℕ) × Appends (W.contents writer.old) (W.contents writer.new) text × (ended : Result (Unit {0}) Fault) × ReplaysAlone A subs script ended text × Tells ended result) }
+    ensures { IfSome (R.remaining reader) (λ script. (text : List ℕ) × Appends (W.contents writer.old) (W.contents writer.new) text × (ended : Result (Unit {0}) Fault) × ReplaysAlone A subs named.now script ended text × Tells ended result) }
 {
-    let ended = replay(alloc, subs, reader, writer);
+    let ended = replay(alloc, subs, named, reader, writer);
     hand_on(writer)?;
     Ok(ended?)
 }

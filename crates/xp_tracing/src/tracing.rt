@@ -12,8 +12,8 @@ use std::sync::Arc;
 use thiserror::Error;
 use xp_capture::write_file_header;
 use xp_door::Trace;
-use xp_exchange::write_out;
 use xp_trace::{Piece, WaitingPieces, write_piece};
+use xp_writing::write_out;
 
 /// Why nothing more is written to a capture file.
 #[derive(Debug, Drop, Error)]

@@ -1,5 +1,6 @@
 -- What is told of events, one list after the other.
 use Rattle.std.proofs.Common.{◌≡◌, ℕ, ◌+◌, List, [], ◌∷◌, ◌++◌, length, take, refl, sym, ap, ◌∙◌, append_assoc, append-nil, subst, All, Option, Result, Ok, Err}
+use Rattle.std.proofs.lemmas.List.{map-append}
 use Rattle.std.proofs.lemmas.List.Elements.{All-head, All-tail}
 use Rattle.std.proofs.Math.Seq.{take-append-add}
 use Rattle.std.specs.Io.KnownBytes.{Appends}
@@ -8,7 +9,7 @@ use Rattle.xp_step.specs.declared.entry.Entry.{Entry}
 use Rattle.xp_step.specs.declared.event.Event.{Event}
 use Rattle.xp_step.specs.Exchange.{Exchange}
 use Rattle.xp_exchange.specs.declared.fault.ReplayFault.{ReplayFault}
-use Rattle.xp_exchange.specs.declared.fault.ReplayFault.TheVariants.{Script, Journal, Memory, Read, Write}
+use Rattle.xp_exchange.specs.declared.fault.ReplayFault.TheVariants.{Script, Journal, Memory, Read, Write, Reload}
 use Rattle.xp_exchange.specs.FrameEvents.{Fits}
 use Rattle.xp_exchange.specs.Play.{ActsOn, Enters, PlayState, RefusesEvent}
 use Rattle.xp_exchange.specs.Acting.{Puts}
@@ -16,48 +17,49 @@ use Rattle.xp_exchange.proofs.Acts.{acts_on_both, acts_on_nothing}
 use Rattle.xp_exchange.proofs.Bytes.{appends_both, appends_nothing}
 use Rattle.xp_transcript.specs.declared.teller.Teller.{Teller}
 use Rattle.xp_transcript.specs.Telling.{IsTold, IsToldInPart, TellState}
-use Rattle.xp_transcript.specs.Transcript.{entry_told, teller_after, teller_behind, transcript}
-use Rattle.xp_transcript.specs.steps.Telling.{TellsEach, TellsEvents}
+use Rattle.xp_transcript.specs.Transcript.{ToldEntry, entries_of, entry_told, teller_after, teller_behind, transcript}
+use Rattle.xp_transcript.specs.steps.Telling.{TellsEach, TellsEntry, TellsEvents}
 
 module _ {A : Type 0} where
-  transcript-append : (tables : Tables) (teller : Teller) (xs ys : List (Entry A)) → transcript tables teller (xs ++ ys) ≡ transcript tables teller xs ++ transcript tables (teller_behind tables teller xs) ys
+  transcript-append : (tables : Tables) (teller : Teller) (xs ys : List (ToldEntry A)) → transcript tables teller (xs ++ ys) ≡ transcript tables teller xs ++ transcript tables (teller_behind tables teller xs) ys
   transcript-append tables teller [] ys = refl
   transcript-append tables teller (x ∷ xs) ys =
-      ap (λ rest. entry_told tables teller x ++ rest) (transcript-append tables (teller_after tables teller x) xs ys)
-      ∙ sym (append_assoc (entry_told tables teller x) (transcript tables (teller_after tables teller x) xs) (transcript tables (teller_behind tables (teller_after tables teller x) xs) ys))
+      ap (λ rest. entry_told tables teller x.name x.entry ++ rest) (transcript-append tables (teller_after tables teller x.entry) xs ys)
+      ∙ sym (append_assoc (entry_told tables teller x.name x.entry) (transcript tables (teller_after tables teller x.entry) xs) (transcript tables (teller_behind tables (teller_after tables teller x.entry) xs) ys))
 
-  behind-append : (tables : Tables) (teller : Teller) (xs ys : List (Entry A)) → teller_behind tables teller (xs ++ ys) ≡ teller_behind tables (teller_behind tables teller xs) ys
+  behind-append : (tables : Tables) (teller : Teller) (xs ys : List (ToldEntry A)) → teller_behind tables teller (xs ++ ys) ≡ teller_behind tables (teller_behind tables teller xs) ys
   behind-append tables teller [] ys = refl
-  behind-append tables teller (x ∷ xs) ys = behind-append tables (teller_after tables teller x) xs ys
+  behind-append tables teller (x ∷ xs) ys = behind-append tables (teller_after tables teller x.entry) xs ys
 
   pub told_nothing : (old : Exchange A) (teller : Teller) → IsTold old teller old teller []
-  told_nothing old teller = record { entries = []; history = sym (append-nil old.history); text_is = refl; behind_is = refl }
+  told_nothing old teller = record { told = []; history = sym (append-nil old.history); text_is = refl; behind_is = refl }
 
-  pub told_one : (old new : Exchange A) (teller behind : Teller) (event : Event A) (entry : Entry A) (text : List ℕ) → Enters old event new entry
-      → text ≡ entry_told old.subs teller entry → behind ≡ teller_after old.subs teller entry → IsTold old teller new behind text
-  told_one old new teller behind event entry text enters is after = record {
-    entries = entry ∷ [];
-    history = enters.history;
-    text_is = is ∙ sym (append-nil (entry_told old.subs teller entry));
+  pub told_one : (old new : Exchange A) (teller behind : Teller) (name : List ℕ) (entry : Entry A) (text : List ℕ) → new.history ≡ old.history ++ entry ∷ []
+      → text ≡ entry_told old.subs teller name entry → behind ≡ teller_after old.subs teller entry → IsTold old teller new behind text
+  told_one old new teller behind name entry text history is after = record {
+    told = record { entry = entry; name = name } ∷ [];
+    history = history;
+    text_is = is ∙ sym (append-nil (entry_told old.subs teller name entry));
     behind_is = after;
   }
 
   pub told_both : (old between new : Exchange A) (first second third : Teller) (one other : List ℕ) → between.subs ≡ old.subs
       → IsTold old first between second one → IsTold between second new third other → IsTold old first new third (one ++ other)
   told_both old between new first second third one other same a b =
-      let later : other ≡ transcript old.subs (teller_behind old.subs first a.entries) b.entries =
-      b.text_is ∙ ap (λ subs. transcript subs second b.entries) same ∙ ap (λ teller. transcript old.subs teller b.entries) a.behind_is in
+      let later : other ≡ transcript old.subs (teller_behind old.subs first a.told) b.told =
+      b.text_is ∙ ap (λ subs. transcript subs second b.told) same ∙ ap (λ teller. transcript old.subs teller b.told) a.behind_is in
       record {
-        entries = a.entries ++ b.entries;
-        history = b.history ∙ ap (λ front. front ++ b.entries) a.history ∙ append_assoc old.history a.entries b.entries;
-        text_is = ap (λ front. front ++ other) a.text_is ∙ ap (λ rest. transcript old.subs first a.entries ++ rest) later
-            ∙ sym (transcript-append old.subs first a.entries b.entries);
-        behind_is = b.behind_is ∙ ap (λ subs. teller_behind subs second b.entries) same ∙ ap (λ teller. teller_behind old.subs teller b.entries) a.behind_is
-            ∙ sym (behind-append old.subs first a.entries b.entries);
+        told = a.told ++ b.told;
+        history = b.history ∙ ap (λ front. front ++ entries_of b.told) a.history ∙ append_assoc old.history (entries_of a.told) (entries_of b.told)
+            ∙ ap (λ rest. old.history ++ rest) (sym (map-append (λ (one : ToldEntry A). one.entry) a.told b.told));
+        text_is = ap (λ front. front ++ other) a.text_is ∙ ap (λ rest. transcript old.subs first a.told ++ rest) later
+            ∙ sym (transcript-append old.subs first a.told b.told);
+        behind_is = b.behind_is ∙ ap (λ subs. teller_behind subs second b.told) same ∙ ap (λ teller. teller_behind old.subs teller b.told) a.behind_is
+            ∙ sym (behind-append old.subs first a.told b.told);
       }
 
   -- nothing of the events is told
-  pub told_in_no_part : (old : Exchange A) (teller : Teller) (events : List (Event A)) → IsToldInPart old teller events []
+  abbrev pub told_in_no_part : (old : Exchange A) (teller : Teller) (events : List (Event A)) → IsToldInPart old teller events []
   told_in_no_part old teller events = record {
     first = [];
     later = events;
@@ -174,6 +176,7 @@ module _ {A : Type 0} where
       go Memory part = after part
       go Write part = after part
       go (Script number) part = elim part [ ]
+      go (Reload number tables why) part = elim part [ ]
       go Read part = elim part [ ]
 
   -- the event is refused
@@ -187,6 +190,7 @@ module _ {A : Type 0} where
       go Write refused = elim refused [ ]
       go Read refused = elim refused [ ]
       go (Script number) refused = elim refused [ ]
+      go (Reload number tables why) refused = elim refused [ ]
 
   -- its entry is not told
   pub untold_event : (old new : TellState A) (event : Event A) (known : Option (List ℕ))
@@ -195,19 +199,31 @@ module _ {A : Type 0} where
 
   -- its entry is told, or a front of that
   pub told_event : (result : Result (Unit {0}) ReplayFault) (old new : TellState A) (event : Event A) (entry : Entry A) (before after : Option (List ℕ)) (text : List ℕ)
-      → Enters old.play.exchange event new.play.exchange entry → text ≡ entry_told old.play.exchange.subs old.teller entry
+      → Enters old.play.exchange event new.play.exchange entry → text ≡ entry_told old.play.exchange.subs old.teller [] entry
       → new.teller ≡ teller_after old.play.exchange.subs old.teller entry → new.play ≡ record old.play { exchange = new.play.exchange }
       → Puts before after text result
       → (own : List ℕ) × Appends before after own × TellsEvents old (event ∷ []) result new own
   told_event (Ok done) old new event entry before after text enters is behind kept puts = (
     text,
     puts,
-    record { acts = enters.acts; told = told_one old.play.exchange new.play.exchange old.teller new.teller event entry text enters is behind; kept = kept },
+    record { acts = enters.acts; told = told_one old.play.exchange new.play.exchange old.teller new.teller [] entry text enters.history is behind; kept = kept },
   )
   told_event (Err fault) old new event entry before after text enters is behind kept puts = (
     take puts.1 text,
     puts.2,
     subst (λ why. TellsEvents old (event ∷ []) (Err why) new (take puts.1 text)) (sym puts.0)
         (told_front old.play.exchange new.play.exchange old.teller new.teller (event ∷ []) text (take puts.1 text) puts.1 enters.acts
-        (told_one old.play.exchange new.play.exchange old.teller new.teller event entry text enters is behind) refl),
+        (told_one old.play.exchange new.play.exchange old.teller new.teller [] entry text enters.history is behind) refl),
+  )
+
+  -- an entry is written, or a front of what is told of it
+  pub told_entry : (result : Result (Unit {0}) ReplayFault) (old new : TellState A) (name : List ℕ) (entry : Entry A) (before after : Option (List ℕ)) (text : List ℕ)
+      → text ≡ entry_told old.play.exchange.subs old.teller name entry → new.play ≡ old.play → new.teller ≡ teller_after old.play.exchange.subs old.teller entry
+      → Puts before after text result
+      → (own : List ℕ) × Appends before after own × TellsEntry old name entry result new own
+  told_entry (Ok done) old new name entry before after text is kept behind puts = (text, puts, (is, kept, behind))
+  told_entry (Err fault) old new name entry before after text is kept behind puts = (
+    take puts.1 text,
+    puts.2,
+    subst (λ why. TellsEntry old name entry (Err why) new (take puts.1 text)) (sym puts.0) (puts.1, ap (take puts.1) is),
   )

@@ -1,6 +1,6 @@
 -- The entries of a history as rows of a ladder diagram.
-use Rattle.std.specs.Prelude.{ℕ, ◌==◌, ◌&&◌, Bool, true, false, codes, if◌then◌else◌, List, [], ◌∷◌, ◌++◌, Option, None, Some}
-use Rattle.std.specs.Fmt.{decimal}
+use Rattle.std.specs.Prelude.{ℕ, ◌-◌, ◌^◌, ◌==◌, ◌&&◌, Bool, true, false, codes, if◌then◌else◌, List, [], ◌∷◌, ◌++◌, Option, None, Some}
+use Rattle.std.specs.Fmt.{decimal, format_spec, padded_integral}
 use Rattle.xp_packets.specs.Diagnostics.{diagnostic_of}
 use Rattle.xp_charge.specs.Text.{name_of}
 use Rattle.xp_subs.specs.Tables.{Tables}
@@ -41,7 +41,7 @@ heading_rows tables None pair = named_heading tables pair
 heading_rows tables (Some last) pair = if same_pair last pair then [] else codes "\n" ++ named_heading tables pair
 
 module _ {A : Type 0} where
-  -- what happened on a line, in few words; that a connection comes is not told
+  -- what happened on a line, in few words; that a connection comes is not told, and a reload is no line's
   abbrev pub few_words : What A → Option (List ℕ)
   few_words Up = None
   few_words Down = Some (codes "connection goes")
@@ -49,11 +49,22 @@ module _ {A : Type 0} where
   few_words (WrongFrame wrong) = Some (codes "no packet, diagnostic " ++ decimal (diagnostic_of wrong))
   few_words Expire = Some (codes "no answer in time")
   few_words Stall = Some (codes "too slow")
-  few_words Reload = Some (codes "other subscriptions")
+  few_words Reload = None
 
   abbrev pub few_put_words : Put A → Option (List ℕ)
   few_put_words (Send identifier packet) = Some (short_packet_text FromDce packet)
   few_put_words Close = Some (codes "connection closed")
+
+-- that the tables of this name are in force: a row of its own, with the moment in ten columns
+abbrev pub reload_row : ℕ → List ℕ → List ℕ
+reload_row moment name =
+    padded_integral (format_spec 32 3 0 10 (2 ^ 64 - 1)) false [] (decimal moment)
+    ++ codes "  tables " ++ name ++ codes " are in force\n"
+
+module _ {A : Type 0} where
+  abbrev pub reload_rows : ℕ → List ℕ → What A → List ℕ
+  reload_rows moment name Reload = reload_row moment name
+  reload_rows moment name what = []
 
 -- the row of a message, if it is told, below its heading
 abbrev pub message_rows : Tables → ℕ → Ladder → ℕ → Direction → Option (List ℕ) → List ℕ
@@ -82,10 +93,11 @@ module _ {A : Type 0} where
   abbrev pub in_places : Ladder → Entry A → Ladder
   in_places ladder entry = record ladder { places = placed_by ladder.places entry }
 
-  -- the event, then the packets that it puts out
-  abbrev pub entry_rows : Tables → Ladder → Entry A → List ℕ
-  entry_rows tables ladder entry =
-      message_rows tables entry.event.moment (in_places ladder entry) entry.event.line FromDte (few_words entry.event.what)
+  -- the event, or which tables it brings, then the packets that it puts out
+  abbrev pub entry_rows : Tables → Ladder → List ℕ → Entry A → List ℕ
+  entry_rows tables ladder name entry =
+      reload_rows entry.event.moment name entry.event.what
+      ++ message_rows tables entry.event.moment (in_places ladder entry) entry.event.line FromDte (few_words entry.event.what)
       ++ output_rows tables entry.event.moment (after_message (in_places ladder entry) entry.event.line (few_words entry.event.what)) entry.outputs
 
   abbrev pub after_entry : Ladder → Entry A → Ladder

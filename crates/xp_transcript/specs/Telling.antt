@@ -2,17 +2,17 @@
 use Rattle.std.specs.Prelude.{◌≡◌, ◌⊎◌, ◌+◌, ◌==◌, ℕ, Bool, List, [], ◌∷◌, ◌++◌, length, take, None, Some, Result, Ok, Err}
 use Rattle.std.specs.List.{slice_split}
 use Rattle.xp_subs.specs.Tables.{Tables, line_count}
-use Rattle.xp_step.specs.declared.entry.Entry.{Entry}
 use Rattle.xp_step.specs.declared.event.Event.{Event}
 use Rattle.xp_step.specs.Exchange.{Exchange}
 use Rattle.xp_script.specs.declared.command.Command.{Command}
-use Rattle.xp_script.specs.Command.{said}
+use Rattle.xp_script.specs.Command.{reload_of, said}
+use Rattle.xp_script.specs.NamedText.{NamedText}
 use Rattle.xp_exchange.specs.declared.fault.ReplayFault.{ReplayFault}
-use Rattle.xp_exchange.specs.declared.fault.ReplayFault.TheVariants.{Script, Journal, Memory, Read, Write}
-use Rattle.xp_exchange.specs.Play.{ActsOn, PlayState, PlaysAll, Plays, opened, start}
+use Rattle.xp_exchange.specs.declared.fault.ReplayFault.TheVariants.{Script, Journal, Memory, Read, Write, Reload}
+use Rattle.xp_exchange.specs.Play.{ActsOn, Brings, PlayState, PlaysAll, Plays, RefusesTables, opened, start}
 use Rattle.xp_transcript.specs.declared.form.Form.{Form}
 use Rattle.xp_transcript.specs.declared.teller.Teller.{Teller}
-use Rattle.xp_transcript.specs.Transcript.{first_teller, front_of, teller_behind, transcript}
+use Rattle.xp_transcript.specs.Transcript.{ToldEntry, entries_of, first_teller, front_of, teller_behind, transcript}
 
 -- the lines of a script, without their line feeds
 abbrev pub is_feed : ℕ → Bool
@@ -34,10 +34,10 @@ pub record TellState (A : Type 0) : Type 0 where
 module _ {A : Type 0} where
   -- The text is the entries from the old exchange to the new, each told in turn.
   pub record IsTold (old : Exchange A) (teller : Teller) (new : Exchange A) (behind : Teller) (text : List ℕ) : Type 0 where
-    pub entries : List (Entry A)
-    pub history : new.history ≡ old.history ++ entries
-    pub text_is : text ≡ transcript old.subs teller entries
-    pub behind_is : behind ≡ teller_behind old.subs teller entries
+    pub told : List (ToldEntry A)
+    pub history : new.history ≡ old.history ++ entries_of told
+    pub text_is : text ≡ transcript old.subs teller told
+    pub behind_is : behind ≡ teller_behind old.subs teller told
 
   -- The exchange acts on the first of these events: none, some or all. The text is a front of what is told of their entries.
   pub record IsToldInPart (old : Exchange A) (teller : Teller) (events : List (Event A)) (text : List ℕ) : Type 0 where
@@ -55,18 +55,20 @@ module _ {A : Type 0} where
   -- The line is read, and its events are told in part.
   pub record TellsInPart (at : TellState A) (line own : List ℕ) : Type 0 where
     pub command : Command A
-    pub says : said at.play.exchange.subs line ≡ Some command
+    pub says : said at.play.exchange.subs at.play.named line ≡ Some command
     pub events : List (Event A)
     pub after : List (List ℕ)
     pub plays : Plays at.play command events after
     pub part : IsToldInPart at.play.exchange at.teller events own
+    pub brings : Brings at.play.named (reload_of command) part.acts.entries
 
   -- why it stops at the line of this number, and what is told of that line
   abbrev pub StopsAt : TellState A → ℕ → List ℕ → ReplayFault → List ℕ → Type 0
-  StopsAt at number line (Script found) own = (found ≡ number) × (said {A = A} at.play.exchange.subs line ≡ None) × (own ≡ [])
+  StopsAt at number line (Script found) own = (found ≡ number) × (said {A = A} at.play.exchange.subs at.play.named line ≡ None) × (own ≡ [])
   StopsAt at number line Memory own = (own ≡ []) ⊎ TellsInPart at line own
   StopsAt at number line Journal own = TellsInPart at line own
   StopsAt at number line Write own = TellsInPart at line own
+  StopsAt at number line (Reload found tables fault) own = (found ≡ number) × RefusesTables at.play line tables fault × (own ≡ [])
   StopsAt at number line Read own = ⊥
 
   -- All lines of the script are played and told.
@@ -97,8 +99,8 @@ module _ {A : Type 0} where
   TellsScript first script (Err fault) text = TellsUntil first script fault text
 
   -- nothing was played yet
-  abbrev pub first_state : Form → Tables → TellState A
-  first_state form tables = record { play = start (opened tables); teller = first_teller form (line_count tables) }
+  abbrev pub first_state : Form → Tables → List NamedText → TellState A
+  first_state form tables named = record { play = start (opened tables) named; teller = first_teller form (line_count tables) }
 
 -- nothing of the script is told: it cannot be read, no memory was left, or the writer fails at what stands in front
 abbrev pub IsUntold : Form → ReplayFault → List ℕ → Type 0
@@ -107,6 +109,7 @@ IsUntold form Memory text = text ≡ []
 IsUntold form Write text = (count : ℕ) × (text ≡ take count (front_of form))
 IsUntold form (Script number) text = ⊥
 IsUntold form Journal text = ⊥
+IsUntold form (Reload number tables fault) text = ⊥
 
 module _ {A : Type 0} where
   -- The script is told behind what stands in front. At the end the writer may fail to hand on what it took.
@@ -122,6 +125,7 @@ module _ {A : Type 0} where
   TranscribesFrom form first script (Ok done) text = IsTranscript form first script (Ok done) text
   TranscribesFrom form first script (Err fault) text = IsUntold form fault text ⊎ IsTranscript form first script (Err fault) text
 
--- what `tell` answers for a script, and what it writes
-abbrev pub Transcribes : (A : Type 0) → Form → Tables → List ℕ → Result (Unit {0}) ReplayFault → List ℕ → Type 0
-Transcribes A form tables script result text = TranscribesFrom form (first_state {A = A} form tables) script result text
+-- what `tell` answers for a script that may name these texts, and what it writes
+abbrev pub Transcribes : (A : Type 0) → Form → Tables → List NamedText → List ℕ → Result (Unit {0}) ReplayFault → List ℕ → Type 0
+Transcribes A form tables named script result text =
+    TranscribesFrom form (first_state {A = A} form tables named) script result text

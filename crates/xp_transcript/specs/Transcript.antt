@@ -1,5 +1,5 @@
 -- What is told of a history, in each form.
-use Rattle.std.specs.Prelude.{ℕ, List, [], ◌∷◌, ◌++◌, None, replicate}
+use Rattle.std.specs.Prelude.{ℕ, List, [], ◌∷◌, ◌++◌, None, map, replicate}
 use Rattle.xp_capture.specs.Capture.{first_flow}
 use Rattle.xp_capture.specs.FileHeader.{file_header}
 use Rattle.xp_subs.specs.Tables.{Tables}
@@ -25,11 +25,19 @@ first_teller forms.Words count = tellers.Words
 first_teller forms.Ladder count = tellers.Ladder (record { places = replicate count alone; headed = None })
 first_teller forms.Capture count = tellers.Capture (replicate count first_flow)
 
+-- An entry, and the name under which it is told of the tables that it brings, if it brings some.
+pub record ToldEntry (A : Type 0) : Type 0 where
+  pub entry : Entry A
+  pub name : List ℕ
+
 module _ {A : Type 0} where
-  unfoldable pub entry_told : Tables → Teller → Entry A → List ℕ
-  entry_told tables tellers.Words entry = entry_words tables entry
-  entry_told tables (tellers.Ladder ladder) entry = entry_rows tables ladder entry
-  entry_told tables (tellers.Capture flows) entry = entry_segments tables flows entry
+  abbrev pub entries_of : List (ToldEntry A) → List (Entry A)
+  entries_of told = map (λ (one : ToldEntry A). one.entry) told
+
+  unfoldable pub entry_told : Tables → Teller → List ℕ → Entry A → List ℕ
+  entry_told tables tellers.Words name entry = entry_words tables name entry
+  entry_told tables (tellers.Ladder ladder) name entry = entry_rows tables ladder name entry
+  entry_told tables (tellers.Capture flows) name entry = entry_segments tables flows entry
 
   -- how the next entry is told
   unfoldable pub teller_after : Tables → Teller → Entry A → Teller
@@ -38,11 +46,11 @@ module _ {A : Type 0} where
   teller_after tables (tellers.Capture flows) entry = tellers.Capture (flows_by_entry tables flows entry)
 
   -- the entries, each told in turn
-  abbrev pub transcript : Tables → Teller → List (Entry A) → List ℕ
+  abbrev pub transcript : Tables → Teller → List (ToldEntry A) → List ℕ
   transcript tables teller [] = []
-  transcript tables teller (entry ∷ entries) =
-      entry_told tables teller entry ++ transcript tables (teller_after tables teller entry) entries
+  transcript tables teller (one ∷ told) =
+      entry_told tables teller one.name one.entry ++ transcript tables (teller_after tables teller one.entry) told
 
-  abbrev pub teller_behind : Tables → Teller → List (Entry A) → Teller
+  abbrev pub teller_behind : Tables → Teller → List (ToldEntry A) → Teller
   teller_behind tables teller [] = teller
-  teller_behind tables teller (entry ∷ entries) = teller_behind tables (teller_after tables teller entry) entries
+  teller_behind tables teller (one ∷ told) = teller_behind tables (teller_after tables teller one.entry) told

@@ -33,6 +33,10 @@ heading_words moment name FromDce = decimal moment ++ codes "  exchange " ++ arr
 abbrev pub channel_words : ℕ → List ℕ
 channel_words identifier = codes "channel " ++ decimal identifier ++ codes ": "
 
+-- `12  tables day are in force`: a reload is no line's
+abbrev pub reload_words : ℕ → List ℕ → List ℕ
+reload_words moment name = decimal moment ++ codes "  tables " ++ name ++ codes " are in force\n"
+
 module _ {A : Type 0} where
   -- what happened on a line
   abbrev pub what_words : What A → List ℕ
@@ -44,8 +48,17 @@ module _ {A : Type 0} where
   what_words Stall = codes "takes its packets too slowly"
   what_words Reload = codes "other subscriptions are in force"
 
-  abbrev pub event_words : Tables → Event A → List ℕ
-  event_words tables event = heading_words event.moment (name_of tables event.line) FromDte ++ what_words event.what ++ codes "\n"
+  -- what a line hands in
+  abbrev pub line_words : Tables → Event A → List ℕ
+  line_words tables event = heading_words event.moment (name_of tables event.line) FromDte ++ what_words event.what ++ codes "\n"
+
+  -- that, or that the tables of this name are in force
+  abbrev pub told_words : Tables → List ℕ → Event A → What A → List ℕ
+  told_words tables name event Reload = reload_words event.moment name
+  told_words tables name event what = line_words tables event
+
+  abbrev pub event_words : Tables → List ℕ → Event A → List ℕ
+  event_words tables name event = told_words tables name event event.what
 
   -- what is put out to a line
   abbrev pub put_words : Put A → List ℕ
@@ -96,8 +109,8 @@ record_words tables ended =
 
 module _ {A : Type 0} where
   -- the event, then the packets that it puts out, then its records
-  abbrev pub entry_words : Tables → Entry A → List ℕ
-  entry_words tables entry =
-      event_words tables entry.event
+  abbrev pub entry_words : Tables → List ℕ → Entry A → List ℕ
+  entry_words tables name entry =
+      event_words tables name entry.event
       ++ flat_map (output_words tables entry.event.moment) entry.outputs
       ++ flat_map (record_words tables) entry.records.items

@@ -2,15 +2,16 @@
 
 ghost use Rattle.std.specs.Prelude.{◌≡◌, ◌++◌, IfOk, OnOk, option_map, replicate, Some, string_bytes};
 ghost use Rattle.xp_transcript.specs.Places.{alone, pair_of};
-ghost use Rattle.xp_transcript.specs.Rows.{after_entry, after_message, after_outputs, entry_rows, heading_rows, message_rows, name_at, named_heading, output_rows};
+ghost use Rattle.xp_transcript.specs.Rows.{after_entry, after_message, after_outputs, entry_rows, heading_rows, message_rows, name_at, named_heading, output_rows, reload_row, reload_rows};
 
 use crate::names::name_of;
 use crate::place::Pair;
 use crate::places::Places;
 use crate::short_words::{few_put_words, few_words};
 use std::alloc::{AllocError, Global};
+use std::fmt;
 use xp_ladder::{Heading, Rung};
-use xp_step::{Entry, Output};
+use xp_step::{Entry, Output, What};
 use xp_subs::{LineNo, Subs};
 use xp_words::Direction;
 
@@ -41,19 +42,22 @@ impl Ladder {
         })
     }
 
-    /// Adds the rows of an entry: its event, then the packets that it puts out.
+    /// Adds the rows of an entry, which brings the subscriptions of this name if it brings some: its event, then the packets
+    /// that it puts out.
     pub(crate) fn push_entry(
         &mut self,
         alloc: Global,
         subs: &Subs,
+        name: &str,
         entry: &Entry,
         text: &mut Vec<u8>,
     ) -> Result<(), AllocError>
-        ensures rows { OnOk result (text.new.items ≡ text.old.items ++ entry_rows subs.now self.old entry.now) }
+        ensures rows { OnOk result (text.new.items ≡ text.old.items ++ entry_rows subs.now self.old name.now entry.now) }
         ensures after { OnOk result (self.new ≡ after_entry self.old entry.now) }
     {
         self.places.place(entry);
         let moment = entry.event.moment;
+        push_reload(alloc, moment, name, &entry.event.what, text)?;
         let message = Message {
             moment,
             line: entry.event.line,
@@ -117,6 +121,49 @@ impl Ladder {
         text.extend_from_slice(row.as_bytes())?;
         text.push(b'\n')?;
         Ok(())
+    }
+}
+
+/// That the subscriptions of this name are in force.
+#[derive(Clone, Copy)]
+struct ReloadRow<'a> {
+    moment: u64,
+    name: &'a str,
+}
+
+impl fmt::Display for ReloadRow<'_> {
+    ghost use Rattle.std.specs.Prelude.{Some};
+
+    ghost output = { λ row. Some (reload_row row.moment row.name.now) };
+
+    fn fmt<W: fmt::Write>(&self, f: &mut fmt::Formatter<W>) -> fmt::Result {
+        let moment = self.moment;
+        let name = self.name;
+        write!(f, "{moment:>10}  tables {name} are in force\n")
+    }
+}
+
+/// Adds the row of a reload that brings the subscriptions of this name, and none for what happens on a line.
+fn push_reload(
+    alloc: Global,
+    moment: u64,
+    name: &str,
+    what: &What,
+    text: &mut Vec<u8>,
+) -> Result<(), AllocError>
+    ensures { OnOk result (text.new.items ≡ text.old.items ++ reload_rows moment name.now what.now) }
+{
+    match what {
+        What::Reload => {
+            let row = ReloadRow { moment, name }.to_string(alloc)?;
+            text.extend_from_slice(row.as_bytes())
+        }
+        What::Up
+        | What::Down
+        | What::Frame { .. }
+        | What::WrongFrame(_)
+        | What::Expire
+        | What::Stall => Ok(()),
     }
 }
 

@@ -12,16 +12,22 @@ use crate::transcript::Transcript;
 use std::alloc::Global;
 use xp_core::Core;
 use xp_exchange::{ReplayFault, ScriptPlayer};
+use xp_script::NamedTables;
 use xp_subs::Subs;
 
-/// Opens an exchange, of which nothing is told yet.
-pub(crate) fn open(alloc: Global, form: Form, subs: Subs) -> Result<Transcript, ReplayFault>
-    ensures opened { IfOk result (λ transcript. transcript ≡ first_state form subs) }
+/// Opens an exchange, of which nothing is told yet. Lines of its script may bring the named subscriptions into force.
+pub(crate) fn open<'s, 'n>(
+    alloc: Global,
+    form: Form,
+    subs: Subs,
+    named: &'s [NamedTables<'n>],
+) -> Result<Transcript<'s, 'n>, ReplayFault>
+    ensures opened { IfOk result (λ transcript. transcript ≡ first_state form subs named.now) }
     ensures refused { IfErr result (λ fault. fault ≡ Memory) }
 {
     let lines = count_lines(&subs);
     let teller = Teller::new(alloc, form, lines)?;
-    let player = open_player(alloc, subs)?;
+    let player = open_player(alloc, subs, named)?;
     Ok(Transcript::new(alloc, player, teller))
 }
 
@@ -33,12 +39,16 @@ fn count_lines(subs: &Subs) -> u16
 }
 
 /// Opens an exchange to which a script can be played.
-fn open_player(alloc: Global, subs: Subs) -> Result<ScriptPlayer, ReplayFault>
-    ensures opened { IfOk result (λ player. player ≡ start (opened subs)) }
+fn open_player<'s, 'n>(
+    alloc: Global,
+    subs: Subs,
+    named: &'s [NamedTables<'n>],
+) -> Result<ScriptPlayer<'s, 'n>, ReplayFault>
+    ensures opened { IfOk result (λ player. player ≡ start (opened subs) named.now) }
     ensures refused { IfErr result (λ fault. fault ≡ Memory) }
 {
     let core = Core::new(alloc, subs)?;
-    match ScriptPlayer::new(alloc, core) {
+    match ScriptPlayer::new(alloc, core, named) {
         Ok(player) => Ok(player),
         Err(_) => Err(ReplayFault::Memory),
     }

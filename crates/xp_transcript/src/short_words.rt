@@ -7,12 +7,12 @@ use std::alloc::{AllocError, Global};
 use xp_step::{Put, What};
 use xp_words::{Direction, ShortPacketWords};
 
-/// What happened on a line, in few words. That a connection comes is not told.
+/// What happened on a line, in few words. That a connection comes is not told, and a reload is no line's.
 pub(crate) fn few_words(alloc: Global, what: &What) -> Result<Option<String>, AllocError>
     ensures { IfOk result (λ words. option_map string_bytes words ≡ few_words what.now) }
 {
     let words = match what {
-        What::Up => return Ok(None),
+        What::Up | What::Reload => return Ok(None),
         What::Down => String::from_str(alloc, "connection goes")?,
         What::Frame { packet, .. } => {
             let direction = Direction::FromDte;
@@ -24,7 +24,6 @@ pub(crate) fn few_words(alloc: Global, what: &What) -> Result<Option<String>, Al
         }
         What::Expire => String::from_str(alloc, "no answer in time")?,
         What::Stall => String::from_str(alloc, "too slow")?,
-        What::Reload => String::from_str(alloc, "other subscriptions")?,
     };
     Ok(Some(words))
 }

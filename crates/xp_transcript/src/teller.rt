@@ -38,25 +38,26 @@ impl Teller {
         })
     }
 
-    /// Adds what is told of an entry.
+    /// Adds what is told of an entry, which brings the subscriptions of this name if it brings some.
     #[tactic(auto, unfolding(crate::specs::Transcript::entry_told, crate::specs::Transcript::teller_after))]
     pub(crate) fn push_entry(
         &mut self,
         alloc: Global,
         subs: &Subs,
+        name: &str,
         entry: &Entry,
         text: &mut Vec<u8>,
     ) -> Result<(), AllocError>
         requires teller { IsFor (line_count subs.now) self.old }
         requires line { entry.now.event.line < line_count subs.now }
         requires lines { HasLines (line_count subs.now) entry.now }
-        ensures told { OnOk result (text.new.items ≡ text.old.items ++ entry_told subs.now self.old entry.now) }
+        ensures told { OnOk result (text.new.items ≡ text.old.items ++ entry_told subs.now self.old name.now entry.now) }
         ensures after { OnOk result (self.new ≡ teller_after subs.now self.old entry.now) }
         ensures teller { IsFor (line_count subs.now) self.new }
     {
         match self {
-            Teller::Words => push_entry_words(alloc, subs, entry, text),
-            Teller::Ladder(ladder) => ladder.push_entry(alloc, subs, entry, text),
+            Teller::Words => push_entry_words(alloc, subs, name, entry, text),
+            Teller::Ladder(ladder) => ladder.push_entry(alloc, subs, name, entry, text),
             Teller::Capture(capture) => push_entry_segments(alloc, subs, capture, entry, text),
         }
     }

@@ -15,9 +15,11 @@ use std::alloc::Global;
 use std::io;
 use std::io::{ErrorKind, Read, Write};
 use xp_exchange::{ReplayFault, write_out};
+use xp_script::NamedTables;
 use xp_subs::Subs;
 
-/// Replays a script to an exchange of these subscriptions, and tells its history in a form. The whole script is read first.
+/// Replays a script to an exchange of these subscriptions, and tells its history in a form. Its lines may bring the named
+/// subscriptions into force. The whole script is read first.
 /// What is written is flushed.
 ///
 /// # Errors
@@ -25,6 +27,8 @@ use xp_subs::Subs;
 /// What is told of the lines before the fault is written whole, and nothing of those behind it. Of the line itself:
 ///
 /// - `Script`, with the number of the line: it is not a line of a script, and nothing is told of it.
+/// - `Reload`, with the number of the line: the subscriptions that it names cannot come into force now, and nothing is told of
+///   it.
 /// - `Journal`, `Memory`, `Write`: what is told of its first events is written, or a front of that. They may be none.
 ///
 /// `Read`: the reader failed, and nothing is written. Without memory to begin nothing is written either.
@@ -32,13 +36,14 @@ pub fn tell<R: Read + Drop, W: Write>(
     alloc: Global,
     form: Form,
     subs: Subs,
+    named: &[NamedTables<'_>],
     reader: R,
     writer: &mut W,
 ) -> Result<(), ReplayFault>
-    ensures { IfSome (R.remaining reader) (λ script. (text : List ℕ) × Appends (W.contents writer.old) (W.contents writer.new) text × Transcribes Alloc form subs script result text) }
+    ensures { IfSome (R.remaining reader) (λ script. (text : List ℕ) × Appends (W.contents writer.old) (W.contents writer.new) text × Transcribes Alloc form subs named.now script result text) }
 {
     match read_script(alloc, reader) {
-        Ok(script) => tell_script(alloc, form, subs, &script, writer),
+        Ok(script) => tell_script(alloc, form, subs, named, &script, writer),
         Err(fault) => Err(fault),
     }
 }
@@ -48,12 +53,13 @@ fn tell_script<W: Write>(
     alloc: Global,
     form: Form,
     subs: Subs,
+    named: &[NamedTables<'_>],
     script: &[u8],
     writer: &mut W,
 ) -> Result<(), ReplayFault>
-    ensures { (text : List ℕ) × Appends (W.contents writer.old) (W.contents writer.new) text × Transcribes Alloc form subs script.now result text }
+    ensures { (text : List ℕ) × Appends (W.contents writer.old) (W.contents writer.new) text × Transcribes Alloc form subs named.now script.now result text }
 {
-    match open(alloc, form, subs) {
+    match open(alloc, form, subs, named) {
         Ok(mut transcript) => {
             let ended = tell_from(alloc, form, &mut transcript, script, writer);
             drop(transcript);
@@ -67,7 +73,7 @@ fn tell_script<W: Write>(
 fn tell_from<W: Write>(
     alloc: Global,
     form: Form,
-    transcript: &mut Transcript,
+    transcript: &mut Transcript<'_, '_>,
     script: &[u8],
     writer: &mut W,
 ) -> Result<(), ReplayFault>

@@ -1,11 +1,13 @@
 //! The lines of a script, played and told one after the other.
 
-ghost use Rattle.std.specs.Prelude.{◌≡◌, ℕ, List, [], ◌∷◌, All};
+ghost use Rattle.std.specs.Prelude.{◌≡◌, ◌<◌, ℕ, List, [], ◌∷◌, All, length};
 ghost use Rattle.std.specs.Io.KnownBytes.{Appends};
+ghost use Rattle.xp_core.specs.Lines.{HasLines};
 ghost use Rattle.xp_exchange.specs.FrameEvents.{Fits};
+ghost use Rattle.xp_script.specs.NamedText.{name_at};
 ghost use Rattle.xp_subs.specs.Tables.{line_count};
 ghost use Rattle.xp_transcript.specs.Telling.{TellsScript};
-ghost use Rattle.xp_transcript.specs.steps.Telling.{IsFor, TellsEvents, TellsLine};
+ghost use Rattle.xp_transcript.specs.steps.Telling.{IsFor, TellsEntry, TellsEvents, TellsLine};
 
 use crate::lines::cut_line;
 use crate::teller::Teller;
@@ -14,14 +16,14 @@ use std::collections::VecDeque;
 use std::io::Write;
 use std::marker::Model;
 use std::mem;
-use xp_exchange::{ReplayFault, ScriptPlayer, write_out};
+use xp_exchange::{Reloaded, ReplayFault, ScriptPlayer, write_out};
 use xp_step::Event;
 
 /// An exchange to which the lines of a script are played, and the telling of what comes of them.
 #[derive(Drop)]
-pub(crate) struct Transcript {
+pub(crate) struct Transcript<'s, 'n> {
     alloc: Global,
-    player: ScriptPlayer,
+    player: ScriptPlayer<'s, 'n>,
     teller: Teller,
     /// The events of a line.
     events: VecDeque<Event>,
@@ -29,7 +31,7 @@ pub(crate) struct Transcript {
     text: Vec<u8>,
 }
 
-impl Model for Transcript {
+impl<'s, 'n> Model for Transcript<'s, 'n> {
     ghost use Rattle.std.specs.declared.alloc.Global.{Global as Alloc};
     ghost use Rattle.xp_subs.specs.Tables.{line_count};
     ghost use Rattle.xp_transcript.specs.Telling.{TellState};
@@ -42,11 +44,15 @@ impl Model for Transcript {
     ghost invariant = { λ t. IsFor (line_count t.player.exchange.subs) t.teller };
 }
 
-impl Transcript {
+impl<'s, 'n> Transcript<'s, 'n> {
     /// The state before the first line of a script.
-    pub(crate) fn new(alloc: Global, player: ScriptPlayer, teller: Teller) -> Transcript
+    pub(crate) fn new(
+        alloc: Global,
+        player: ScriptPlayer<'s, 'n>,
+        teller: Teller,
+    ) -> Transcript<'s, 'n>
         requires { IsFor (line_count player.exchange.subs) teller }
-        ensures { result ≡ record { play = player; teller = teller } }
+        ensures { result ≡ record { play = player.entry; teller = teller } }
     {
         Transcript {
             alloc,
@@ -85,7 +91,10 @@ impl Transcript {
         ensures { (text : List ℕ) × Appends (W.contents writer.old) (W.contents writer.new) text × TellsLine self.old number line.now result self.new text }
     {
         let mut events = mem::replace(&mut self.events, VecDeque::new(self.alloc));
-        self.player.read_line(number, line, &mut events)?;
+        match self.player.read_line(number, line, &mut events)? {
+            Some(reloaded) => return self.tell_reload(&reloaded, writer),
+            None => {}
+        }
         self.tell_events(&mut events, writer)?;
         self.events = events;
         Ok(())
@@ -115,7 +124,26 @@ impl Transcript {
         self.text.clear();
         let subs = self.player.subs();
         self.teller
-            .push_entry(self.alloc, subs, &entry, &mut self.text)?;
+            .push_entry(self.alloc, subs, "", &entry, &mut self.text)?;
+        write_out(writer, &self.text)
+    }
+
+    /// Tells the entry of a reload.
+    fn tell_reload<W: Write>(
+        &mut self,
+        reloaded: &Reloaded,
+        writer: &mut W,
+    ) -> Result<(), ReplayFault>
+        requires known { reloaded.now.number < length self.old.play.named }
+        requires line { reloaded.now.entry.event.line < line_count self.old.play.exchange.subs }
+        requires lines { HasLines (line_count self.old.play.exchange.subs) reloaded.now.entry }
+        ensures { (text : List ℕ) × Appends (W.contents writer.old) (W.contents writer.new) text × TellsEntry self.old (name_at self.old.play.named reloaded.now.number) reloaded.now.entry result self.new text }
+    {
+        self.text.clear();
+        let subs = self.player.subs();
+        let name = self.player.name_of_tables(reloaded.number);
+        self.teller
+            .push_entry(self.alloc, subs, name, &reloaded.entry, &mut self.text)?;
         write_out(writer, &self.text)
     }
 }

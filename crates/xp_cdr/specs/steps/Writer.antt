@@ -6,13 +6,12 @@ use Rattle.xp_cdr.specs.declared.giving.Giving.{Giving}
 use Rattle.xp_cdr.specs.declared.progress.Progress.{Progress}
 use Rattle.xp_cdr.specs.Details.{detail_text}
 use Rattle.xp_cdr.specs.Files.{HasFront}
-use Rattle.xp_cdr.specs.Ledger.{first_tables}
 use Rattle.xp_cdr.specs.Parts.{BeginLater, EndedBefore, EndedBy, OpenFile}
 use Rattle.xp_cdr.specs.steps.Batch.{Texts, end_of_all, first_cut}
 
 -- the call detail record of a call
 abbrev pub told_text : Giving → EndedCall → List ℕ
-told_text giving call = detail_text (first_tables giving.told_by.items) giving.run call
+told_text giving call = detail_text giving.run call
 
 -- Behind what it has on the disk, the file has taken so many of these octets. Where it is not known how many, it has taken a front
 -- of them.

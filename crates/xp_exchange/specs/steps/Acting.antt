@@ -9,8 +9,9 @@ use Rattle.xp_step.specs.Exchange.{Exchange}
 use Rattle.xp_core.specs.declared.fault.StepFault.{StepFault}
 use Rattle.xp_core.specs.declared.fault.StepFault.TheVariants as steps
 use Rattle.xp_exchange.specs.declared.fault.ReplayFault.{ReplayFault}
-use Rattle.xp_exchange.specs.declared.fault.ReplayFault.TheVariants.{Script, Journal, Memory, Read, Write}
-use Rattle.xp_exchange.specs.Play.{ActsOn}
+use Rattle.xp_exchange.specs.declared.fault.ReplayFault.TheVariants.{Script, Journal, Memory, Read, Write, Reload}
+use Rattle.xp_script.specs.NamedText.{NamedText}
+use Rattle.xp_exchange.specs.Play.{ActsOn, IsRefusedText}
 use Rattle.xp_exchange.specs.WholeScript.{IsWritten, IsWrittenInPart, FindsNoMemory}
 
 -- the text is written, or, if the writer fails, a prefix of it, or, if there is no memory, nothing
@@ -43,6 +44,14 @@ module _ {A : Type 0} where
   reason (steps.JournalFull event) = Journal
   reason (steps.Memory event) = Memory
 
+  -- why the tables of this number do not come into force, for the line of this number
+  abbrev pub RefusesReload : Exchange A → List NamedText → ℕ → ℕ → ReplayFault → Type 0
+  RefusesReload exchange named tables number Journal = exchange.subs.journal < length exchange.history + 4
+  RefusesReload exchange named tables number Memory = Unit {0}
+  RefusesReload exchange named tables number (Reload found which fault) =
+      (found ≡ number) × (which ≡ tables) × IsRefusedText exchange named which fault
+  RefusesReload exchange named tables number fault = ⊥
+
   -- The first of the events are acted on. They may be none, and they may be all.
   pub record ActsOnFirst (old : Exchange A) (events : List (Event A)) (now : Exchange A) : Type 0 where
     pub first : List (Event A)
@@ -59,6 +68,7 @@ module _ {A : Type 0} where
   Breaks old events Write new text = ActsOnFirst old events new × IsWrittenInPart old new text
   Breaks old events (Script number) new text = ⊥
   Breaks old events Read new text = ⊥
+  Breaks old events (Reload number tables fault) new text = ⊥
 
   -- what acting on events in turn returns, the exchange then, and what is written
   abbrev pub Acted : Exchange A → List (Event A) → Result (Unit {0}) ReplayFault → Exchange A → List ℕ → Type 0

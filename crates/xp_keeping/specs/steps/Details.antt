@@ -9,7 +9,6 @@ use Rattle.xp_keeping.specs.Details.{IsFirstOf, Keeping}
 pub record IsGivenAs (keeping : Keeping) : Type 0 where
   pub front : IsFirstOf keeping.ledger.given keeping.given
   pub all : keeping.is_short ≡ false → keeping.ledger.given ≡ keeping.given
-  pub subs : keeping.ledger.subs ≡ keeping.subs
 
 -- memory is wanting, and the writer is as it was, or it was given the records
 abbrev pub Gives : Bool → Ledger → List EndedCall → Bool → Ledger → Type 0

@@ -18,4 +18,11 @@ Adds was_short old ended is_short new =
 
 -- what stays the same
 abbrev pub GoesOnBeside : {K : Type 0} → Queued K → Queued K → Type 0
-GoesOnBeside old new = (new.subs ≡ old.subs) × (new.first ≡ old.first) × (new.fault ≡ old.fault) × (new.last ≡ old.last) × (new.ended_by ≡ old.ended_by)
+GoesOnBeside old new =
+    (new.opening ≡ old.opening)
+    × (new.named ≡ old.named)
+    × (new.subs ≡ old.subs)
+    × (new.first ≡ old.first)
+    × (new.fault ≡ old.fault)
+    × (new.last ≡ old.last)
+    × (new.ended_by ≡ old.ended_by)

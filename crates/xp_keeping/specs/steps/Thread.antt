@@ -1,5 +1,5 @@
 -- For private steps. What the thread that keeps records gives back.
-use Rattle.std.specs.Prelude.{◌≡◌, List, IfSome, Option, Result}
+use Rattle.std.specs.Prelude.{◌≡◌, List, Result}
 use Rattle.atomic_table.specs.Seated.{TableId}
 use Rattle.xp_cdr.specs.declared.ended.EndedCall.{EndedCall}
 use Rattle.xp_keeping.specs.declared.keep_fault.KeepFault.{KeepFault}
@@ -7,7 +7,7 @@ use Rattle.xp_outbox.specs.Ends.{Taking}
 
 module _ {K : Type 0} (kept : K → List EndedCall → Result (Unit {0}) KeepFault → Type 0) (keeps : K → K → Type 0) where
   -- It gives back the end of its queue, and the keeper, which has kept all that was taken from the queue.
-  pub record IsGivenBack (first : K) (queue : TableId) (keeper : K) (records : Taking EndedCall) (outcome : Option (Result (Unit {0}) KeepFault)) : Type 0 where
+  pub record IsGivenBack (first : K) (queue : TableId) (keeper : K) (records : Taking EndedCall) (outcome : Result (Unit {0}) KeepFault) : Type 0 where
     pub same : records.queue ≡ queue
-    pub kept_is : IfSome outcome (λ came. kept keeper records.taken came)
-    pub keeps_on : IfSome outcome (λ came. keeps first keeper)
+    pub kept_is : kept keeper records.taken outcome
+    pub keeps_on : keeps first keeper

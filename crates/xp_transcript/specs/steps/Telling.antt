@@ -1,11 +1,12 @@
 -- What private functions promise of telling events, and one line.
-use Rattle.std.specs.Prelude.{◌≡◌, ℕ, List, Result, Ok, Err, length}
+use Rattle.std.specs.Prelude.{◌≡◌, ℕ, List, [], Result, Ok, Err, length, take}
+use Rattle.xp_step.specs.declared.entry.Entry.{Entry}
 use Rattle.xp_step.specs.declared.event.Event.{Event}
 use Rattle.xp_exchange.specs.declared.fault.ReplayFault.{ReplayFault}
-use Rattle.xp_exchange.specs.declared.fault.ReplayFault.TheVariants.{Script, Journal, Memory, Read, Write}
+use Rattle.xp_exchange.specs.declared.fault.ReplayFault.TheVariants.{Script, Journal, Memory, Read, Write, Reload}
 use Rattle.xp_exchange.specs.Play.{ActsOn, PlaysLine}
 use Rattle.xp_transcript.specs.Telling.{IsTold, IsToldInPart, IsUntold, StopsAt, TellState}
-use Rattle.xp_transcript.specs.Transcript.{front_of}
+use Rattle.xp_transcript.specs.Transcript.{entry_told, front_of, teller_after}
 use Rattle.xp_transcript.specs.declared.form.Form.{Form}
 use Rattle.xp_transcript.specs.declared.teller.Teller.{Teller}
 use Rattle.xp_transcript.specs.declared.teller.Teller.TheVariants as tellers
@@ -23,6 +24,7 @@ IsUnread Memory = Unit {0}
 IsUnread Write = ⊥
 IsUnread Journal = ⊥
 IsUnread (Script number) = ⊥
+IsUnread (Reload number tables fault) = ⊥
 
 -- what stands in front of all entries is written
 abbrev pub WritesFront : Form → Result (Unit {0}) ReplayFault → List ℕ → Type 0
@@ -41,7 +43,18 @@ module _ {A : Type 0} where
   TellsEvents old events (Ok done) new text = TellsEach old events new text
   TellsEvents old events (Err (Script number)) new text = ⊥
   TellsEvents old events (Err Read) new text = ⊥
+  TellsEvents old events (Err (Reload number tables fault)) new text = ⊥
   TellsEvents old events (Err fault) new text = IsToldInPart old.play.exchange old.teller events text
+
+  -- what telling an entry under this name answers, and what is told of it
+  abbrev pub TellsEntry : TellState A → List ℕ → Entry A → Result (Unit {0}) ReplayFault → TellState A → List ℕ → Type 0
+  TellsEntry old name entry (Ok done) new text =
+      (text ≡ entry_told old.play.exchange.subs old.teller name entry) × (new.play ≡ old.play)
+      × (new.teller ≡ teller_after old.play.exchange.subs old.teller entry)
+  TellsEntry old name entry (Err Memory) new text = text ≡ []
+  TellsEntry old name entry (Err Write) new text =
+      (count : ℕ) × (text ≡ take count (entry_told old.play.exchange.subs old.teller name entry))
+  TellsEntry old name entry (Err fault) new text = ⊥
 
   -- The line is played, and the entries that it makes are told.
   pub record TellsWhole (old : TellState A) (line : List ℕ) (new : TellState A) (text : List ℕ) : Type 0 where

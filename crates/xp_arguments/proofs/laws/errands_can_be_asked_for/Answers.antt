@@ -1,16 +1,66 @@
-use Rattle.std.proofs.Common.{None, Some, ap, arith, codes, false, option_map, refl, subst, sym, true}
+use Rattle.std.proofs.Common.{[], ◌∷◌, None, Some, ap, arith, codes, false, option_map, refl, subst, sym, true}
 use Rattle.xp_limits.specs.Limits.{IsNumber}
 use Rattle.clap.proofs.OnLiterals.{clap_on_literals}
-use Rattle.xp_arguments.specs.Commands.{IsLive, IsNamed, directory_of, file_of}
+use Rattle.xp_arguments.specs.Commands.{IsLive, IsNamed, IsOneForm, directory_of, file_of}
+use Rattle.xp_arguments.specs.NamedPaths.{AreTables}
 use Rattle.xp_arguments.proofs.laws.errands_can_be_asked_for.Goals as goal
+
+none_named : AreTables [] []
+none_named = record { named = refl; once = refl }
 
 pub returns-clause-check : goal.returns-clause-check
 unfolding clap_on_literals
-returns-clause-check c = record { faultless = refl; asked = record { word = _; rows = _; found_is = refl; subcommand_is = (refl, (refl, (refl, refl))); named = refl } }
+returns-clause-check c = record { faultless = refl; asked = record { word = _; rows = _; found_is = refl; subcommand_is = (refl, record { form = refl; depth = (refl, refl); after = refl }); named = refl } }
 
 pub returns-clause-replay : goal.returns-clause-replay
 unfolding clap_on_literals
-returns-clause-replay c = record { faultless = refl; asked = record { word = _; rows = _; found_is = refl; subcommand_is = (refl, (refl, refl, refl)); named = refl } }
+returns-clause-replay c =
+    λ order form tables. record {
+      faultless = refl;
+      asked = record {
+        word = _;
+        rows = _;
+        found_is = refl;
+        subcommand_is = (refl, record { form = subst (IsOneForm false false None) (sym form) (refl, refl, refl); tables = subst (AreTables []) (sym tables) none_named });
+        named = refl;
+      };
+    }
+
+pub returns-clause-tables : goal.returns-clause-tables
+unfolding clap_on_literals
+returns-clause-tables c =
+    λ order day night form tables day_name day_path night_name night_path. record {
+      faultless = refl;
+      asked = record {
+        word = _;
+        rows = _;
+        found_is = refl;
+        subcommand_is = (
+          refl,
+          record {
+            form = subst (IsOneForm false false None) (sym form) (refl, refl, refl);
+            tables =
+                subst (AreTables (codes "d=b" ∷ codes "n=c=d" ∷ [])) (sym tables)
+                (record { named = rw (day_name, day_path, night_name, night_path) refl; once = rw (day_name, night_name) refl });
+          },
+        );
+        named = refl;
+      };
+    }
+
+pub returns-clause-after : goal.returns-clause-after
+unfolding clap_on_literals
+returns-clause-after c =
+    λ order form depth after. record {
+      faultless = refl;
+      asked = record {
+        word = _;
+        rows = _;
+        found_is = refl;
+        subcommand_is = (refl, record { form = rw form refl; depth = rw depth ((refl, refl)); after = after });
+        named = refl;
+      };
+    }
 
 twelve : IsNumber (codes "12") 12
 twelve = record { numeral = (omega arith, (omega arith, (omega arith, tt))); value = refl; least = omega arith; most = omega arith }
@@ -125,25 +175,49 @@ pub returns-clause-stop : goal.returns-clause-stop
 unfolding clap_on_literals
 returns-clause-stop c = record { faultless = refl; asked = record { word = _; rows = _; found_is = refl; subcommand_is = (refl, tt); named = refl } }
 
+pub returns-clause-reload : goal.returns-clause-reload
+unfolding clap_on_literals
+returns-clause-reload c = record { faultless = refl; asked = record { word = _; rows = _; found_is = refl; subcommand_is = (refl, tt); named = refl } }
+
 pub returns-clause-summary : goal.returns-clause-summary
 unfolding clap_on_literals
-returns-clause-summary c = record { faultless = refl; asked = record { word = _; rows = _; found_is = refl; subcommand_is = (refl, (refl, (refl, refl))); named = refl } }
+returns-clause-summary c = record { faultless = refl; asked = record { word = _; rows = _; found_is = refl; subcommand_is = (refl, record { form = refl; depth = (refl, refl); after = refl }); named = refl } }
 
 pub returns-clause-serving : goal.returns-clause-serving
 unfolding clap_on_literals
-returns-clause-serving c = record { faultless = refl; asked = record { word = _; rows = _; found_is = refl; subcommand_is = (refl, (refl, (refl, refl))); named = refl } }
+returns-clause-serving c = record { faultless = refl; asked = record { word = _; rows = _; found_is = refl; subcommand_is = (refl, record { form = refl; depth = (refl, refl); after = refl }); named = refl } }
 
 pub returns-clause-ports : goal.returns-clause-ports
 unfolding clap_on_literals
-returns-clause-ports c = record { faultless = refl; asked = record { word = _; rows = _; found_is = refl; subcommand_is = (refl, (refl, refl)); named = refl } }
+returns-clause-ports c = record { faultless = refl; asked = record { word = _; rows = _; found_is = refl; subcommand_is = (refl, record { form = refl; depth = refl; after = refl }); named = refl } }
 
 pub returns-clause-words : goal.returns-clause-words
 unfolding clap_on_literals
-returns-clause-words c = record { faultless = refl; asked = record { word = _; rows = _; found_is = refl; subcommand_is = (refl, (refl, refl, refl)); named = refl } }
+returns-clause-words c =
+    λ order form tables. record {
+      faultless = refl;
+      asked = record {
+        word = _;
+        rows = _;
+        found_is = refl;
+        subcommand_is = (refl, record { form = subst (IsOneForm true false None) (sym form) (refl, refl, refl); tables = subst (AreTables []) (sym tables) none_named });
+        named = refl;
+      };
+    }
 
 pub returns-clause-ladder : goal.returns-clause-ladder
 unfolding clap_on_literals
-returns-clause-ladder c = record { faultless = refl; asked = record { word = _; rows = _; found_is = refl; subcommand_is = (refl, (refl, refl, refl)); named = refl } }
+returns-clause-ladder c =
+    λ order form tables. record {
+      faultless = refl;
+      asked = record {
+        word = _;
+        rows = _;
+        found_is = refl;
+        subcommand_is = (refl, record { form = subst (IsOneForm false true None) (sym form) (refl, refl, refl); tables = subst (AreTables []) (sym tables) none_named });
+        named = refl;
+      };
+    }
 
 pub returns-clause-explain : goal.returns-clause-explain
 unfolding clap_on_literals

@@ -4,4 +4,4 @@ use Rattle.xp_cdr.proofs.laws.details_are_read_back.Goals as goal
 
 pub returns : goal.returns
 unfolding detail_text
-returns c = λ tables run call rest. read-write (detail_fields tables run call) rest
+returns c = λ run call rest. read-write (detail_fields run call) rest

@@ -5,4 +5,4 @@ use Rattle.xp_keeping.proofs.doubt.write_lines.Goals as goal
 pub returns-in-Err : goal.returns-in-Err
 returns-in-Err g c =
     let put = c.in-Err.ensures in
-    (take put.1 c.args.lines.now, put.2, front_of put.1 c.args.lines.now)
+    (take put.0 c.args.lines.now, put.1, front_of put.0 c.args.lines.now)

@@ -7,7 +7,7 @@ use Rattle.xp_keeping.proofs.left.write_left.Goals as goal
 
 pub returns : goal.returns
 returns g c =
-    let text = detail_text c.args.subs.now c.args.run.now in
+    let text = detail_text c.args.run.now in
     let first = c.as_slices.result.0.now in
     let second = c.as_slices.result.1.now in
     let before = g.W.Write.contents c.args.output.now in

@@ -7,5 +7,5 @@ use Rattle.xp_keeping.proofs.left.write_one.Goals as goal
 pub returns : goal.returns
 returns g c =
     let put = c.in-Err.ensures in
-    let text : c.deref.result.now ≡ detail_text c.args.subs.now c.args.run.now c.args.call.now = search rules in
-    (take put.1 c.deref.result.now, put.2, subst (IsFront (take put.1 c.deref.result.now)) text (front_of put.1 c.deref.result.now))
+    let text : c.deref.result.now ≡ detail_text c.args.run.now c.args.call.now = search rules in
+    (take put.0 c.deref.result.now, put.1, subst (IsFront (take put.0 c.deref.result.now)) text (front_of put.0 c.deref.result.now))

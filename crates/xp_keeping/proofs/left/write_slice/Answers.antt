@@ -2,14 +2,14 @@ use Rattle.std.proofs.Common.{◌++◌, Err, ap, drop, flat_map, subst, sym, tak
 use Rattle.std.proofs.lemmas.Result.{err_from_is_err_and}
 use Rattle.std.specs.Io.KnownBytes.{Appends}
 use Rattle.xp_cdr.specs.Details.{detail_text}
-use Rattle.xp_exchange.proofs.Bytes.{appends_both}
+use Rattle.xp_writing.proofs.Bytes.{appends_both}
 use Rattle.xp_keeping.specs.Printing.{IsFront, Prints}
 use Rattle.xp_keeping.proofs.Fronts.{around, front_behind, one_more}
 use Rattle.xp_keeping.proofs.left.write_slice.Goals as goal
 
 pub returns-in_err-write_one : goal.returns-in_err-write_one
 returns-in_err-write_one g c =
-    let text = detail_text c.args.subs.now c.args.run.now in
+    let text = detail_text c.args.run.now in
     let records = c.args.left.now in
     let i = c.loop-call.call-index in
     let p = err_from_is_err_and c.from_residual.result c.from_residual.ensures.1 in
@@ -25,7 +25,7 @@ returns-in_err-write_one g c =
 
 pub loop-call-preserved : goal.loop-call-preserved
 loop-call-preserved g c =
-    let text = detail_text c.args.subs.now c.args.run.now in
+    let text = detail_text c.args.run.now in
     let records = c.args.left.now in
     let i = c.loop-call.call-index in
     subst (Appends (g.W.Write.contents c.args.output.now) (g.W.Write.contents c.write_one.new.output)) (sym (one_more text records i c.call-item.result c.loop-call-test.true c.call-item.is))

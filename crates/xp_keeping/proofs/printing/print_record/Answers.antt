@@ -1,5 +1,5 @@
 use Rattle.std.proofs.Common.{◌≡◌, rules, subst, take}
-use Rattle.xp_charge.specs.Text.{record_text}
+use Rattle.xp_cdr.specs.RecordLine.{record_line}
 use Rattle.xp_keeping.specs.Printing.{IsFront}
 use Rattle.xp_keeping.proofs.Fronts.{front_of}
 use Rattle.xp_keeping.proofs.printing.print_record.Goals as goal
@@ -7,5 +7,5 @@ use Rattle.xp_keeping.proofs.printing.print_record.Goals as goal
 pub returns-in-Err : goal.returns-in-Err
 returns-in-Err g c =
     let put = c.in-Err.ensures in
-    let text : c.deref.result.now ≡ record_text c.args.subs.now c.args.ended.now = search rules in
-    (take put.1 c.deref.result.now, put.2, subst (IsFront (take put.1 c.deref.result.now)) text (front_of put.1 c.deref.result.now))
+    let text : c.deref.result.now ≡ record_line c.args.call.now = search rules in
+    (take put.0 c.deref.result.now, put.1, subst (IsFront (take put.0 c.deref.result.now)) text (front_of put.0 c.deref.result.now))

@@ -1,14 +1,15 @@
 use Rattle.std.proofs.Common.{◌++◌, Err, ap, drop, flat_map, subst, sym, take, ◌+◌, ◌∙◌}
 use Rattle.std.proofs.lemmas.Result.{err_from_is_err_and}
 use Rattle.std.specs.Io.KnownBytes.{Appends}
-use Rattle.xp_exchange.proofs.Bytes.{appends_both}
-use Rattle.xp_keeping.specs.Printing.{IsFront, Prints, printed_text}
+use Rattle.xp_cdr.specs.RecordLine.{record_line}
+use Rattle.xp_writing.proofs.Bytes.{appends_both}
+use Rattle.xp_keeping.specs.Printing.{IsFront, Prints}
 use Rattle.xp_keeping.proofs.Fronts.{around, front_behind, one_more}
 use Rattle.xp_keeping.proofs.printing.print_records.Goals as goal
 
 pub returns-in_err-print_record : goal.returns-in_err-print_record
 returns-in_err-print_record g c =
-    let text = printed_text c.args.subs.now in
+    let text = record_line in
     let records = c.args.calls.now in
     let i = c.loop-call.call-index in
     let p = err_from_is_err_and c.from_residual.result c.from_residual.ensures.1 in
@@ -24,7 +25,7 @@ returns-in_err-print_record g c =
 
 pub loop-call-preserved : goal.loop-call-preserved
 loop-call-preserved g c =
-    let text = printed_text c.args.subs.now in
+    let text = record_line in
     let records = c.args.calls.now in
     let i = c.loop-call.call-index in
     subst (Appends (g.W.Write.contents c.args.writer.now) (g.W.Write.contents c.print_record.new.writer)) (sym (one_more text records i c.call-item.result c.loop-call-test.true c.call-item.is))

@@ -1,11 +1,11 @@
 use Rattle.std.proofs.Common.{◌≡◌, ◌<◌, Some, length, refl, rules, slice_get}
 use Rattle.std.proofs.lemmas.Option.{slice_get_read}
-use Rattle.xp_live.proofs.LiveLemmas.{all_have_lines, one_more}
+use Rattle.xp_live.proofs.LiveLemmas.{one_more}
 use Rattle.xp_live.proofs.connected.live_calls.Goals as goal
 
 pub loop-line-preserved : goal.loop-line-preserved
 loop-line-preserved c =
-    let lines = c.counts-lines.result.lines in
+    let subs = c.args.subs.now in
     let moment = c.args.moment in
     let views = c.args.view.now.lines.items in
     let line = c.loop-line.line in
@@ -13,7 +13,4 @@ loop-line-preserved c =
     let found = c.live_call-found.result in
     let within : line < length views = search rules in
     let at : slice_get views line ≡ Some view = slice_get_read views _ line view refl within c.index.ensures in
-    rw (c.in_ok-push_if_some.ensures) (record {
-      calls = one_more lines moment line views view found _ at c.live_call-found.ensures c.loop-line.invariant.calls;
-      lines = all_have_lines lines moment line view.call found _ c.live_call-found.ensures c.loop-line.invariant.lines;
-    })
+    rw (c.in_ok-push_if_some.ensures) (one_more subs moment line views view found _ at c.live_call-found.ensures c.loop-line.invariant)

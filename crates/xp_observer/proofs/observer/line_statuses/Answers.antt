@@ -1,8 +1,8 @@
 use Rattle.std.proofs.Common.{rules, ◌<◌, length, refl, ◌≡◌, ◌∙◌, ◌+◌, Some, ap, map, option_map, slice_get, subst, sym}
 use Rattle.std.proofs.lemmas.Option.{slice_get-map, slice_get_read}
 use Rattle.xp_observer.proofs.Shown.{one_more}
-use Rattle.xp_observer.specs.Shown.{IsShownAs}
-use Rattle.xp_observer.specs.steps.Shown.{AreShownSoFar, names_in}
+use Rattle.xp_observer.specs.Shown.{IsShownAs, names_in}
+use Rattle.xp_observer.specs.steps.Shown.{AreShownSoFar}
 use Rattle.xp_observer.proofs.observer.line_statuses.Goals as goal
 
 pub loop-place-preserved : goal.loop-place-preserved

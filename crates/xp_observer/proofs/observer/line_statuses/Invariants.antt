@@ -1,5 +1,6 @@
 use Rattle.std.specs.Prelude.{map}
-use Rattle.xp_observer.specs.steps.Shown.{AreShownSoFar, names_in}
+use Rattle.xp_observer.specs.Shown.{names_in}
+use Rattle.xp_observer.specs.steps.Shown.{AreShownSoFar}
 use Rattle.xp_observer.proofs.observer.line_statuses.Given as goal
 
 abbrev pub invariant-loop-place : goal.invariant-loop-place

@@ -9,7 +9,7 @@ returns-in-Some-cut_word-clause-said g c =
     let name = c.in-Some-cut_word.name.now in
     let digits = c.in-Some-cut_word.digits.now in
     let all : words c.args.text.now ≡ verb ∷ name ∷ words digits = c.in-Some.ensures ∙ ap (λ words. verb ∷ words) c.in-Some-cut_word.ensures in
-    rw (all, said-cut c.args.subs.now verb name digits, ← c.line_named.ensures.found) c.about_octets.ensures.said
+    rw (all, said-cut c.args.subs.now c.args.named.now verb name digits, ← c.line_named.ensures.found) c.about_octets.ensures.said
 
 pub returns-in-Some-cut_word-clause-memory : goal.returns-in-Some-cut_word-clause-memory
 returns-in-Some-cut_word-clause-memory g c = λ lacks.

@@ -4,16 +4,16 @@ use Rattle.xp_serve.specs.LeftAlone.{LeavesAlone}
 use Rattle.xp_serve.proofs.doubt.settle.Goals as goal
 
 pub write_doubted-written-requires : goal.write_doubted-written-requires
-write_doubted-written-requires g c = told_by c.args.subs.now c.args.run.now c.args.end.keeper c.args.end.outcome c.requires
+write_doubted-written-requires g c = told_by c.args.end.keeper.opening c.args.run.now c.args.end.keeper c.args.end.outcome c.requires
 
 pub returns-then-says_all_kept : goal.returns-then-says_all_kept
 returns-then-says_all_kept g c =
-    nothing_written c.args.subs.now c.args.run.now c.args.end.keeper c.args.end.outcome (g.W.Write.contents c.args.output.now) c.requires
+    nothing_written c.args.end.keeper.opening c.args.run.now c.args.end.keeper c.args.end.outcome (g.W.Write.contents c.args.output.now) c.requires
     (sym c.says_all_kept.ensures ∙ c.if-says_all_kept.true)
 
 pub returns : goal.returns
 returns g c =
-    let tables = c.args.subs.now in
+    let tables = c.args.end.keeper.opening in
     let keeper = c.args.end.keeper in
     let before = g.W.Write.contents c.args.output.now in
     let after = g.W.Write.contents c.write_doubted-written.new.output in

@@ -19,8 +19,9 @@ end-requires-clause-early_end g c = early_line c.args.subs c.in-Ok-serve_on.reco
 pub end-requires-clause-lines : goal.end-requires-clause-lines
 end-requires-clause-lines g c =
     let sink = c.in-Ok-serve_on.recorded.sink in
-    let names = g.met.K.RecordKeeper.keeps_names c.args.keeper sink c.in-Ok-serve_on.ensures.keeps in
-    g.met.K.RecordKeeper.has_lines sink ∙ ap line_count (names ∙ c.requires.names ∙ sym c.in-Ok-serve_on.ensures.served.subs)
+    g.met.K.RecordKeeper.keeps_lines c.args.keeper sink c.in-Ok-serve_on.ensures.keeps
+    ∙ g.met.K.RecordKeeper.has_lines c.args.keeper
+    ∙ ap line_count (c.requires.names ∙ sym c.in-Ok-serve_on.ensures.served.subs)
 
 pub end-requires-clause-received : goal.end-requires-clause-received
 end-requires-clause-received g c =

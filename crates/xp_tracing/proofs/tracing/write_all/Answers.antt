@@ -5,4 +5,4 @@ use Rattle.xp_tracing.proofs.tracing.write_all.Goals as goal
 pub returns-in-Err : goal.returns-in-Err
 returns-in-Err g c =
     let put = c.in-Err.ensures in
-    (take put.1 c.args.octets.now, put.2, front_of put.1 c.args.octets.now)
+    (take put.0 c.args.octets.now, put.1, front_of put.0 c.args.octets.now)

@@ -2,7 +2,7 @@ use Rattle.std.proofs.Common.{◌++◌, Err, ap, drop, flat_map, subst, sym, tak
 use Rattle.std.proofs.lemmas.List.{take_all}
 use Rattle.std.proofs.lemmas.Result.{err_from_is_err_and}
 use Rattle.std.specs.Io.KnownBytes.{Appends}
-use Rattle.xp_exchange.proofs.Bytes.{appends_both}
+use Rattle.xp_writing.proofs.Bytes.{appends_both}
 use Rattle.xp_keeping.proofs.Flushed.{flushed}
 use Rattle.xp_keeping.proofs.Fronts.{around, front_behind, one_more}
 use Rattle.xp_keeping.specs.Printing.{IsFront, Prints}

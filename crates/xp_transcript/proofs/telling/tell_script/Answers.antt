@@ -13,4 +13,4 @@ returns-in-Ok g c =
 
 pub returns-in-Err : goal.returns-in-Err
 returns-in-Err g c =
-    unread c.args.form (first_state {A = Alloc} c.args.form c.args.subs) c.in-Err.fault _ (subst IsUnread (sym c.in-Err.ensures.refused) tt) c.args.script.now
+    unread c.args.form (first_state {A = Alloc} c.args.form c.args.subs c.args.named.now) c.in-Err.fault _ (subst IsUnread (sym c.in-Err.ensures.refused) tt) c.args.script.now

@@ -73,11 +73,11 @@ returns-in_err-unfit-in-None-clause-taken c =
     let words = map string_bytes c.args.words.now in
     let p = err_from_is_err_and c.from_residual-in_err-unfit-in-None.result c.from_residual-in_err-unfit-in-None.ensures.1 in
     subst (λ result. IfErr result (λ error. AreRight words → kind_of error ≡ OutOfMemory)) (sym p.1)
-    (λ right. absurd (found_as_asked words _ _ c.in_ok-command.ensures c.in_ok-matches.ensures.matches c.in-None.ensures.none right))
+    (λ right. absurd (found_as_asked words _ _ c.in_ok-command.ensures c.in_ok-matches.ensures.matches (rw c.in-None.is at c.in_ok-arguments.ensures.none) right))
 
 pub returns-clause-taken : goal.returns-clause-taken
 returns-clause-taken c =
-    λ right. absurd (found_as_asked (map string_bytes c.args.words.now) _ _ c.in_ok-command.ensures c.in_ok-matches.ensures.matches c.in-None.ensures.none right)
+    λ right. absurd (found_as_asked (map string_bytes c.args.words.now) _ _ c.in_ok-command.ensures c.in_ok-matches.ensures.matches (rw c.in-None.is at c.in_ok-arguments.ensures.none) right)
 
 pub returns-in-Some-clause-asked : goal.returns-in-Some-clause-asked
 returns-in-Some-clause-asked c =
@@ -85,5 +85,5 @@ returns-in-Some-clause-asked c =
     let asked = c.in-Some.arguments in
     record {
       faultless = no_fault _ words c.in_ok-command.ensures c.in_ok-matches.ensures.kinds;
-      asked = subst (λ found. AsksFor found asked.subcommand asked.operand.now) (found_alike words _ _ c.in_ok-command.ensures c.in_ok-matches.ensures.matches) c.in-Some.ensures.found;
+      asked = subst (λ found. AsksFor found asked.subcommand asked.operand.now) (found_alike words _ _ c.in_ok-command.ensures c.in_ok-matches.ensures.matches) (rw c.in-Some.is at c.in_ok-arguments.ensures.found);
     }

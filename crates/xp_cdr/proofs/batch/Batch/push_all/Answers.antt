@@ -9,7 +9,7 @@ use Rattle.xp_cdr.proofs.batch.Batch.push_all.Goals as goal
 pub returns-in-Err-clause-err : goal.returns-in-Err-clause-err
 returns-in-Err-clause-err g c =
     let part_of = g.F.RecordFile.part_of in
-    let text = detail_text c.args.subs.now c.args.run.now in
+    let text = detail_text c.args.run.now in
     let front = take c.loop-call.call-index c.args.calls.now in
     let first = c.self.inside in
     let last = c.self-in-loop-call.inside in
@@ -26,7 +26,7 @@ returns-in-Err-clause-err g c =
 pub loop-call-preserved : goal.loop-call-preserved
 loop-call-preserved g c =
     let part_of = g.F.RecordFile.part_of in
-    let text = detail_text c.args.subs.now c.args.run.now in
+    let text = detail_text c.args.run.now in
     let calls = c.args.calls.now in
     let place = c.loop-call.call-index in
     let call = c.call-item.result in

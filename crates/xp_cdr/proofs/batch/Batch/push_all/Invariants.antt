@@ -4,4 +4,4 @@ use Rattle.xp_cdr.specs.steps.Batch.{with_texts}
 use Rattle.xp_cdr.proofs.batch.Batch.push_all.Given as goal
 
 abbrev pub invariant-loop-call : goal.invariant-loop-call
-invariant-loop-call g l = l.self ≡ with_texts g.F.RecordFile.part_of (detail_text l.subs l.run) l.fn.self (take l.call-index l.calls)
+invariant-loop-call g l = l.self ≡ with_texts g.F.RecordFile.part_of (detail_text l.run) l.fn.self (take l.call-index l.calls)

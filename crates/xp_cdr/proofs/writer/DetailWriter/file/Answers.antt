@@ -17,5 +17,5 @@ returns-clause-filed g c =
     let current = g.F.RecordFile.current file in
     let batch = c.self.inside.batch in
     let progress = c.self.inside.progress in
-    subst (λ (ledger : Ledger). AreFiled part_of (detail_text ledger.subs ledger.run) ledger.given current ledger.taken) c.self.view_is
+    subst (λ (ledger : Ledger). AreFiled part_of (detail_text ledger.run) ledger.given current ledger.taken) c.self.view_is
     (are_filed part_of text given synced taken current batch progress c.self.invariant)

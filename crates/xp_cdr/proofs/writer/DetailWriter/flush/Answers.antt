@@ -1,5 +1,4 @@
 use Rattle.std.proofs.Common.{append-nil, drop, refl, sym, ◌∙◌}
-use Rattle.xp_cdr.specs.Ledger.{first_tables}
 use Rattle.xp_cdr.specs.steps.Writer.{told_text}
 use Rattle.xp_cdr.proofs.LedgerLemmas.{is_unfinished, is_whole, whole_at_end}
 use Rattle.xp_cdr.proofs.SentLemmas.{all_told, sent_anew}
@@ -23,12 +22,11 @@ returns-in-Err-clause-flushes g c =
         more = ensures.advances.more;
         waited = ensures.advances.rest_is;
         synced = ensures.advances.synced_is;
-        subs = refl;
         run = refl;
         given = refl;
       },
       ensures.failures,
-      is_unfinished part_of (first_tables c.self.inside.giving.told_by.items) c.self.inside.giving.run given (g.F.RecordFile.synced now) (g.F.RecordFile.taken now)
+      is_unfinished part_of c.self.inside.giving.run given (g.F.RecordFile.synced now) (g.F.RecordFile.taken now)
           (g.F.RecordFile.current now) (g.F.RecordFile.failures now) batch c.flush_batch-flushed.new.progress ensures.sent,
     )
 
@@ -44,7 +42,7 @@ returns-in-Err-clause-whole g c =
     let batch = c.self.inside.batch in
     let progress = c.self.inside.progress in
     let now = c.flush_batch-flushed.new.file in
-    is_whole part_of (first_tables c.self.inside.giving.told_by.items) c.self.inside.giving.run given (g.F.RecordFile.synced now) (g.F.RecordFile.taken now)
+    is_whole part_of c.self.inside.giving.run given (g.F.RecordFile.synced now) (g.F.RecordFile.taken now)
     (g.F.RecordFile.current now) (g.F.RecordFile.failures now) batch c.flush_batch-flushed.new.progress c.in-Err.ensures.sent
 
 pub invariant_of-self : goal.invariant_of-self
@@ -79,7 +77,6 @@ returns-in-Ok-clause-flushes g c =
         more = drop progress.octets batch.octets;
         waited = sym (append-nil (drop progress.octets batch.octets));
         synced = whole.synced_is ∙ all_told part_of text given synced taken current batch progress c.self.invariant;
-        subs = refl;
         run = refl;
         given = refl;
       },
@@ -100,5 +97,5 @@ returns-in-Ok-clause-whole g c =
     let progress = c.self.inside.progress in
     let now = c.flush_batch-flushed.new.file in
     rw (c.clear.ensures, c.none-self-inside.ensures)
-    (whole_at_end part_of (first_tables c.self.inside.giving.told_by.items) c.self.inside.giving.run given (g.F.RecordFile.synced now) (g.F.RecordFile.taken now)
+    (whole_at_end part_of c.self.inside.giving.run given (g.F.RecordFile.synced now) (g.F.RecordFile.taken now)
     (g.F.RecordFile.current now) (g.F.RecordFile.failures now) batch.part c.in-Ok.ensures.whole)

@@ -1,7 +1,4 @@
-use Rattle.std.proofs.Common.{ap, refl, sym, ◌∙◌}
-use Rattle.xp_cdr.specs.Details.{detail_text}
-use Rattle.xp_cdr.specs.Ledger.{Ledger}
-use Rattle.xp_cdr.specs.steps.Batch.{with_texts}
+use Rattle.std.proofs.Common.{refl}
 use Rattle.xp_cdr.specs.steps.Writer.{told_text}
 use Rattle.xp_cdr.proofs.GivenLemmas.{given_more, waits_more}
 use Rattle.xp_cdr.proofs.SentLemmas.{start_within}
@@ -22,8 +19,7 @@ invariant_of-self-2 g c =
     let batch = c.self.inside.batch in
     let progress = c.self.inside.progress in
     let calls = c.args.calls.now in
-    let subs = c.requires.subs ∙ ap (λ (ledger : Ledger). ledger.subs) (sym c.self.view_is) in
-    let pushed = c.in_ok-push_all.ensures.ok ∙ ap (λ subs. with_texts part_of (detail_text subs c.self.inside.giving.run) batch calls) subs in
+    let pushed = c.in_ok-push_all.ensures.ok in
     rw (c.extend.ensures, pushed) (given_more part_of text given calls synced taken current batch progress c.self.invariant)
 
 pub returns-clause-ok : goal.returns-clause-ok
@@ -38,8 +34,7 @@ returns-clause-ok g c =
     let batch = c.self.inside.batch in
     let progress = c.self.inside.progress in
     let calls = c.args.calls.now in
-    let subs = c.requires.subs ∙ ap (λ (ledger : Ledger). ledger.subs) (sym c.self.view_is) in
-    let pushed = c.in_ok-push_all.ensures.ok ∙ ap (λ subs. with_texts part_of (detail_text subs c.self.inside.giving.run) batch calls) subs in
+    let pushed = c.in_ok-push_all.ensures.ok in
     rw (
       ← c.self.view_is,
       c.extend.ensures,

@@ -1,5 +1,5 @@
 use Rattle.std.proofs.Common.{ap, drop, subst, ◌∙◌}
-use Rattle.xp_cdr.specs.Ledger.{IsUnfinished, IsWhole, Ledger, first_tables}
+use Rattle.xp_cdr.specs.Ledger.{IsUnfinished, IsWhole, Ledger}
 use Rattle.xp_cdr.specs.steps.Writer.{told_text}
 use Rattle.xp_cdr.proofs.LedgerLemmas.{is_unfinished, is_whole}
 use Rattle.xp_cdr.proofs.SentLemmas.{start_within}
@@ -32,7 +32,7 @@ returns-clause-lines g c =
     let same = c.octets_behind.ensures ∙ ap (drop progress.octets) c.octets.ensures in
     rw same
     (subst (λ (ledger : Ledger). IsUnfinished ledger (drop progress.octets batch.octets)) c.self.view_is
-    (is_unfinished part_of (first_tables c.self.inside.giving.told_by.items) c.self.inside.giving.run given synced taken current (g.F.RecordFile.failures file) batch progress c.self.invariant))
+    (is_unfinished part_of c.self.inside.giving.run given synced taken current (g.F.RecordFile.failures file) batch progress c.self.invariant))
 
 pub returns-clause-whole : goal.returns-clause-whole
 returns-clause-whole g c =
@@ -46,4 +46,4 @@ returns-clause-whole g c =
     let batch = c.self.inside.batch in
     let progress = c.self.inside.progress in
     subst IsWhole c.self.view_is
-    (is_whole part_of (first_tables c.self.inside.giving.told_by.items) c.self.inside.giving.run given synced taken current (g.F.RecordFile.failures file) batch progress c.self.invariant)
+    (is_whole part_of c.self.inside.giving.run given synced taken current (g.F.RecordFile.failures file) batch progress c.self.invariant)

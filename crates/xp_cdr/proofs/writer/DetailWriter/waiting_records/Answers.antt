@@ -1,5 +1,5 @@
 use Rattle.std.proofs.Common.{◌-◌, subst}
-use Rattle.xp_cdr.specs.Ledger.{LacksLast, Ledger, first_tables}
+use Rattle.xp_cdr.specs.Ledger.{LacksLast, Ledger}
 use Rattle.xp_cdr.specs.steps.Writer.{told_text}
 use Rattle.xp_cdr.proofs.LedgerLemmas.{lacks_last}
 use Rattle.xp_cdr.proofs.writer.DetailWriter.waiting_records.Goals as goal
@@ -17,4 +17,4 @@ returns g c =
     let progress = c.self.inside.progress in
     rw c.count.ensures
     (subst (λ (ledger : Ledger). LacksLast ledger (batch.count - progress.records)) c.self.view_is
-    (lacks_last part_of (first_tables c.self.inside.giving.told_by.items) c.self.inside.giving.run given synced taken current (g.F.RecordFile.failures file) batch progress c.self.invariant))
+    (lacks_last part_of c.self.inside.giving.run given synced taken current (g.F.RecordFile.failures file) batch progress c.self.invariant))

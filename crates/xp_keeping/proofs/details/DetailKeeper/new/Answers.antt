@@ -7,7 +7,6 @@ invariant_of-result g c = (
   record {
     front = ([], c.new-2.ensures ∙ ap (λ (ledger : Ledger). ledger.given ++ []) (sym c.new.ensures));
     all = λ enough. ap (λ (ledger : Ledger). ledger.given) c.new.ensures ∙ sym c.new-2.ensures;
-    subs = ap (λ (ledger : Ledger). ledger.subs) c.new.ensures;
   },
   omega arith,
 )

@@ -11,9 +11,9 @@ invariant_of-self g c =
     let between = g.W.Write.contents was.writer in
     let after = g.W.Write.contents more.new.writer in
     let counted = c.count_on-self-inside in
-    let printed = printed_more was.subs was.given.items c.args.calls.now before between after was.outcome more.result c.self.invariant.0 more.ensures in (
-      subst (λ given. IsPrinted (record { subs = was.subs; given = given; before = before; contents = after; outcome = more.result })) (sym c.extend.ensures) printed,
-      subst (λ given. HasPrinted (record { subs = was.subs; given = given; before = before; contents = after; outcome = more.result }) counted.result) (sym c.extend.ensures)
-          (printed_on was.subs was.given.items c.args.calls.now before between after was.outcome more.result was.count counted.result printed c.self.invariant.1 more.ensures
+    let printed = printed_more was.given.items c.args.calls.now before between after was.outcome more.result c.self.invariant.0 more.ensures in (
+      subst (λ given. IsPrinted (record { given = given; before = before; contents = after; outcome = more.result })) (sym c.extend.ensures) printed,
+      subst (λ given. HasPrinted (record { given = given; before = before; contents = after; outcome = more.result }) counted.result) (sym c.extend.ensures)
+          (printed_on was.given.items c.args.calls.now before between after was.outcome more.result was.count counted.result printed c.self.invariant.1 more.ensures
           (λ fine. counted.ensures.more (c.is_ok.ensures.value ∙ fine)) (λ failed. counted.ensures.same (c.is_ok.ensures.value ∙ failed))),
     )

@@ -5,4 +5,4 @@ use Rattle.xp_keeping.proofs.queued.QueuedKeeper.hand_over.Given as goal
 
 abbrev pub invariant-loop-ended : goal.invariant-loop-ended
 invariant-loop-ended g l =
-    (l.self.given ≡ l.fn.self.given ++ map (ended_as l.fn.self.ended_by) (take l.ended-index l.records)) × GoesOnBeside l.fn.self l.self
+    (l.self.given ≡ l.fn.self.given ++ map (ended_as l.fn.self.subs l.fn.self.ended_by) (take l.ended-index l.records)) × GoesOnBeside l.fn.self l.self

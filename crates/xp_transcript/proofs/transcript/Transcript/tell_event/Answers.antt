@@ -42,9 +42,9 @@ returns g c =
     let same : c.subs-subs.result.now ≡ c.self.inside.player.exchange.subs = c.subs-subs.ensures ∙ enters.acts.subs in
     let old : TellState _ = record { play = c.self.inside.player; teller = teller } in
     let new : TellState _ = record { play = c.act_on.new.self; teller = c.push_entry.new.self } in
-    let told : c.push_entry.new.text.items ≡ entry_told c.self.inside.player.exchange.subs teller entry =
-    c.in_ok-push_entry.ensures.told ∙ ap (λ front. front ++ entry_told c.subs-subs.result.now teller entry) c.clear.ensures.items
-    ∙ ap (λ subs. entry_told subs teller entry) same in
+    let told : c.push_entry.new.text.items ≡ entry_told c.self.inside.player.exchange.subs teller [] entry =
+    c.in_ok-push_entry.ensures.told ∙ ap (λ front. front ++ entry_told c.subs-subs.result.now teller [] entry) c.clear.ensures.items
+    ∙ ap (λ subs. entry_told subs teller [] entry) same in
     subst (λ first. (text : List ℕ) × Appends before after text × TellsEvents first (c.args.event ∷ []) c.write_out.result new text) c.self.view_is
     (told_event c.write_out.result old new c.args.event entry before after c.push_entry.new.text.items enters told
     (c.in_ok-push_entry.ensures.after ∙ ap (λ subs. teller_after subs teller entry) same) c.act_on.ensures.kept

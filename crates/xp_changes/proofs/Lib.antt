@@ -1,0 +1,4 @@
+pub mod Differing
+pub mod Kept
+mod LineLemmas
+mod Listed

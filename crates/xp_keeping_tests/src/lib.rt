@@ -1,0 +1,5 @@
+//! Tests of keeping charging records on a thread of its own.
+#![tactic(auto)]
+
+#[cfg(test)]
+mod renaming;
