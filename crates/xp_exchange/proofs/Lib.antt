@@ -1,5 +1,4 @@
 pub mod Acts
-pub mod Bytes
 pub mod Heard
 pub mod Idle
 pub mod Lines

@@ -8,7 +8,7 @@ use Rattle.xp_exchange.specs.declared.fault.ReplayFault.{ReplayFault}
 use Rattle.xp_exchange.specs.steps.Replaying.{Progress, TakesIn, Took, Ended, Overflows}
 use Rattle.xp_exchange.specs.WholeScript.{Stops}
 use Rattle.xp_exchange.specs.Splitting.{line_feed, HasNoFeed}
-use Rattle.xp_exchange.proofs.Bytes.{appends_nothing, appends_both}
+use Rattle.xp_writing.proofs.Bytes.{appends_nothing, appends_both}
 use Rattle.xp_exchange.proofs.Lines.{no_feed_both, took_none, took_octets, took_line, took_stops, took_overflows}
 
 no_feed_front : (octets : List ℕ) (count : ℕ) → Nowhere (Passes (is_byte line_feed) octets) 0 count → HasNoFeed (take count octets)

@@ -13,7 +13,7 @@ use Rattle.xp_exchange.specs.steps.Acting.{Acted, ActsOnFirst}
 use Rattle.xp_exchange.specs.Play.{Brings, PlayState, Plays, BeginsLine, ReadsLine, RefusesLine, moment_after}
 use Rattle.xp_exchange.specs.WholeScript.{IsWritten}
 use Rattle.xp_exchange.specs.steps.Playing.{Played}
-use Rattle.xp_exchange.proofs.Bytes.{appends_kept}
+use Rattle.xp_writing.proofs.Bytes.{appends_kept}
 use Rattle.xp_exchange.proofs.Tellings.{told_nothing, told_whole}
 
 module _ {A : Type 0} where

@@ -11,7 +11,7 @@ use Rattle.xp_exchange.specs.Play.{PlayState, PlaysAll, opened, start}
 use Rattle.xp_exchange.specs.steps.Replaying.{Progress, TakesIn, Took, Finished, ReplaysFrom}
 use Rattle.xp_exchange.specs.WholeScript.{StopsAt, Stops, Replays, ReplaysAlone}
 use Rattle.xp_exchange.specs.Splitting.{joined, HasNoFeed}
-use Rattle.xp_exchange.proofs.Bytes.{appends_nothing, appends_both, consumes_nothing, consumes_both, consumes_kept}
+use Rattle.xp_writing.proofs.Bytes.{appends_nothing, appends_both, consumes_nothing, consumes_both, consumes_kept}
 use Rattle.xp_exchange.proofs.Lines.{same_subs, took_none, took_stops, took_unread, took_all, stops_first}
 use Rattle.xp_exchange.proofs.Tellings.{outputs_to_both}
 

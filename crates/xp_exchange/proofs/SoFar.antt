@@ -11,7 +11,7 @@ use Rattle.xp_exchange.specs.FrameEvents.{Fits}
 use Rattle.xp_exchange.specs.Play.{ActsOn}
 use Rattle.xp_exchange.specs.WholeScript.{IsWritten}
 use Rattle.xp_exchange.proofs.Acts.{acts_on_nothing, acts_on_both, first_after}
-use Rattle.xp_exchange.proofs.Bytes.{appends_nothing, appends_both}
+use Rattle.xp_writing.proofs.Bytes.{appends_nothing, appends_both}
 use Rattle.xp_exchange.proofs.Tellings.{told_nothing, outputs_to_both, told_in_part, no_memory_after}
 
 module _ {A : Type 0} where

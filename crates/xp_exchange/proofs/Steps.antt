@@ -16,7 +16,7 @@ use Rattle.xp_exchange.specs.Play.{ActsOn, Enters, RefusesEvent}
 use Rattle.xp_exchange.specs.WholeScript.{IsWritten}
 use Rattle.xp_exchange.specs.steps.Acting.{Tells, Acted, ActsOnFirst, reason}
 use Rattle.xp_exchange.proofs.Acts.{acts_on_one, first_of_all, first_of_none, told_one}
-use Rattle.xp_exchange.proofs.Bytes.{appends_nothing}
+use Rattle.xp_writing.proofs.Bytes.{appends_nothing}
 use Rattle.xp_exchange.proofs.Tellings.{told_nothing}
 
 abbrev IsAnswered : {X E : Type 0} → Result X E → Type 0

@@ -5,7 +5,7 @@ use Rattle.xp_step.specs.declared.event.Event.{Event}
 use Rattle.xp_exchange.specs.declared.fault.ReplayFault.{ReplayFault}
 use Rattle.xp_exchange.specs.declared.fault.ReplayFault.TheVariants.{Script, Journal, Memory, Read, Write, Reload}
 use Rattle.xp_exchange.specs.Play.{ActsOn, Brings, PlayState, Plays, PlaysAll, PlaysLine, ReadsLine, RefusesLine, ReloadsLine}
-use Rattle.xp_exchange.proofs.Bytes.{appends_both, appends_nothing}
+use Rattle.xp_writing.proofs.Bytes.{appends_both, appends_nothing}
 use Rattle.xp_exchange.proofs.Played.{brings_none}
 use Rattle.xp_exchange.proofs.TablesLines.{brings_one, plays_reload}
 use Rattle.xp_exchange.specs.declared.reloaded.Reloaded.{Reloaded}

@@ -14,7 +14,7 @@ use Rattle.xp_exchange.specs.FrameEvents.{Fits}
 use Rattle.xp_exchange.specs.Play.{ActsOn, Enters, PlayState, RefusesEvent}
 use Rattle.xp_exchange.specs.Acting.{Puts}
 use Rattle.xp_exchange.proofs.Acts.{acts_on_both, acts_on_nothing}
-use Rattle.xp_exchange.proofs.Bytes.{appends_both, appends_nothing}
+use Rattle.xp_writing.proofs.Bytes.{appends_both, appends_nothing}
 use Rattle.xp_transcript.specs.declared.teller.Teller.{Teller}
 use Rattle.xp_transcript.specs.Telling.{IsTold, IsToldInPart, TellState}
 use Rattle.xp_transcript.specs.Transcript.{ToldEntry, entries_of, entry_told, teller_after, teller_behind, transcript}

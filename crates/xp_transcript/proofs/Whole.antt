@@ -4,7 +4,7 @@ use Rattle.std.specs.Io.KnownBytes.{Appends, Keeps}
 use Rattle.xp_exchange.specs.declared.fault.ReplayFault.{ReplayFault}
 use Rattle.xp_exchange.specs.declared.fault.ReplayFault.TheVariants.{Script, Journal, Memory, Read, Write, Reload}
 use Rattle.xp_exchange.specs.Acting.{Puts}
-use Rattle.xp_exchange.proofs.Bytes.{appends_both, appends_kept, appends_nothing}
+use Rattle.xp_writing.proofs.Bytes.{appends_both, appends_kept, appends_nothing}
 use Rattle.xp_transcript.specs.declared.form.Form.{Form}
 use Rattle.xp_transcript.specs.Telling.{IsUntold, IsTranscript, TellState, TellsScript, TranscribesFrom}
 use Rattle.xp_transcript.specs.Transcript.{front_of}

@@ -1,7 +1,7 @@
 use Rattle.std.proofs.Common.{◌∙◌, ℕ, List, Ok, Err, ap, inl, refl, sym, subst}
 use Rattle.std.proofs.lemmas.Result.{err_from_is_err_and}
 use Rattle.std.specs.Io.KnownBytes.{Appends}
-use Rattle.xp_exchange.proofs.Bytes.{keeps_itself}
+use Rattle.xp_writing.proofs.Bytes.{keeps_itself}
 use Rattle.xp_transcript.specs.Telling.{TranscribesFrom}
 use Rattle.xp_transcript.proofs.Whole.{handed, transcribed, untold}
 use Rattle.xp_transcript.proofs.telling.tell_from.Goals as goal

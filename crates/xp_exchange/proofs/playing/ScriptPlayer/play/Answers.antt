@@ -6,7 +6,7 @@ use Rattle.xp_subs.specs.Tables.{line_count}
 use Rattle.xp_exchange.specs.Play.{LineRead, PlayState}
 use Rattle.xp_exchange.specs.steps.Acting.{Tells}
 use Rattle.xp_exchange.specs.steps.Playing.{Played}
-use Rattle.xp_exchange.proofs.Bytes.{appends_nothing}
+use Rattle.xp_writing.proofs.Bytes.{appends_nothing}
 use Rattle.xp_exchange.proofs.Played.{not_read, played_read}
 use Rattle.xp_exchange.proofs.TablesLines.{reloaded}
 use Rattle.xp_exchange.proofs.playing.ScriptPlayer.play.Goals as goal

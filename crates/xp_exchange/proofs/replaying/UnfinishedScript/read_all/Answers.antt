@@ -1,7 +1,7 @@
 use Rattle.std.proofs.Common.{◌∙◌, ap, sym, subst, Err, IfSome, arith, take, refl, ℕ}
 use Rattle.std.proofs.lemmas.List.{length-take-le, length-replicate}
 use Rattle.std.proofs.lemmas.Result.{err_from_is_err_and}
-use Rattle.xp_exchange.proofs.Bytes.{keeps_itself}
+use Rattle.xp_writing.proofs.Bytes.{keeps_itself}
 use Rattle.xp_exchange.proofs.Script.{Told, read_none, read_more, read_kept, told_stops, told_unread, told_all}
 use Rattle.xp_exchange.proofs.replaying.UnfinishedScript.read_all.Goals as goal
 use Rattle.xp_exchange.proofs.replaying.UnfinishedScript.read_all.Goals.{in-Ok+in_ok-take-in-Ok, in-Err+else-ne}

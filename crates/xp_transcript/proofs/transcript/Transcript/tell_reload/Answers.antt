@@ -1,7 +1,7 @@
 use Rattle.std.proofs.Common.{◌≡◌, ◌∙◌, ◌++◌, ℕ, List, [], Err, ap, refl, sym, subst}
 use Rattle.std.proofs.lemmas.Result.{err_from_is_err_and}
 use Rattle.std.specs.Io.KnownBytes.{Appends}
-use Rattle.xp_exchange.proofs.Bytes.{appends_nothing}
+use Rattle.xp_writing.proofs.Bytes.{appends_nothing}
 use Rattle.xp_exchange.specs.Acting.{Puts}
 use Rattle.xp_script.specs.NamedText.{name_at}
 use Rattle.xp_transcript.specs.Telling.{TellState}

@@ -1,5 +1,0 @@
-use Rattle.xp_exchange.proofs.Bytes.{PutSoFar}
-use Rattle.xp_exchange.proofs.writing.write_out.Given as goal
-
-abbrev pub invariant-loop : goal.invariant-loop
-invariant-loop g l = PutSoFar l.fn.text l.rest (g.W.Write.contents l.fn.writer) (g.W.Write.contents l.writer)
