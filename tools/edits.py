@@ -218,7 +218,8 @@ def main():
             tries = [Try(gate, crate, it, earlier[crate.name]) for crate, it in zip(crates, edits)]
             # The dearest begin first.
             tries.sort(key=lambda it: -len(it.crate.below()))
-            failed += try_unedited(tries) if arguments.unedited else try_all(batches_of(tries), arguments.jobs or most_at_once(gate))
+            at_once = min(arguments.jobs or gate.processors(), most_at_once(gate))
+            failed += try_unedited(tries) if arguments.unedited else try_all(batches_of(tries), at_once)
         os.chdir(TOP)
     print(f"{len(edits) + len(others) - min(failed, len(edits) + len(others))} passed, {failed} failed")
     return 1 if failed else 0

@@ -112,11 +112,21 @@ def unlisted_scripts():
     return sorted(found - {it.name for it in SCRIPTS} - NO_TESTS)
 
 
-def crates_of_tests():
-    """The crates of tests that crates.txt names."""
+def crates():
+    """The crates that crates.txt names, in its order."""
     lines = (TOP / "crates.txt").read_text(encoding="utf-8").splitlines()
-    names = [line.split(":")[0].split()[0] for line in lines if ":" in line and not line.startswith("#")]
-    return [it for it in names if it.endswith("_tests")]
+    return [line.split(":")[0].split()[0] for line in lines if ":" in line and not line.startswith("#")]
+
+
+def crates_of_tests():
+    """Those of tests."""
+    return [it for it in crates() if it.endswith("_tests")]
+
+
+def libraries():
+    """Those that the program stands on: they come before it."""
+    names = crates()
+    return set(names[: names.index("xp")])
 
 
 def jobs_before_proofs():
