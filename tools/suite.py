@@ -47,6 +47,7 @@ SCRIPTS = [
     Script("subscriptions.py", "--stations 32 --runs 1", "reading subscriptions takes time in proportion to them", 10, "--runs 5"),
     Script("serve/console.py", "", "the console: answers, what it shows, its stop", 40),
     Script("serve/reload.py", "--reloads 200", "other subscriptions come into force under calls of data", 30, ""),
+    Script("serve/reload_lines.py", "--reloads 8", "lines that come and go while the exchange serves", 40, ""),
     Script("serve/page.py", "", "the console's page in a browser, where there is one", 15),
     Script("serve/records_file.py", "", "the file of call detail records", 40),
     Script("serve/live_calls.py", "", "the file of live calls, and what the start after a kill makes of it", 70),
@@ -83,7 +84,7 @@ TIMED = ("serve/", "documents.py", "subscriptions.py")
 MOST_OF_SCRIPT, MOST_OF_BUILD = 600, 1200
 
 # The scripts of bench/ that are no tests: measurements, and what is read beside another program.
-NO_TESTS = {"instructions.py", "model.py", "words_tshark.py", "serve/allocations.py", "serve/many.py", "serve/reload_load.py", "serve/router_load.py", "serve/run.py"}
+NO_TESTS = {"instructions.py", "model.py", "words_tshark.py", "serve/allocations.py", "serve/asked.py", "serve/many.py", "serve/reload_load.py", "serve/router_load.py", "serve/run.py"}
 
 
 def launcher(is_proved):

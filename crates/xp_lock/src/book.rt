@@ -62,7 +62,8 @@ impl<A: Allocator> Book<A> {
     /// subscriptions. Closed user groups let the stations of each live call, and of each line that a call was ever put to,
     /// be joined. The sizes of each live call are in their ranges, and what a connected call accepts arrives. The history is one
     /// event after the other, each with the stalls that it forced: three at most, each at its moment and of a line in service
-    /// that the event, or a stall before, put something out to.
+    /// that the event, or a stall before, put something out to. Only a reload has other stalls, before it: those of the lines that
+    /// must go.
     pub fn count(&self) -> u64
         ensures count { result ≡ length self.now.history }
         ensures run { Run self.now.subs self.now.history (world_after self.now.subs self.now.history) }

@@ -28,7 +28,7 @@ use xp_lock::{Exchange, LinePass, PreparedExchange, prepare};
 use xp_seats::{Name, Recorder};
 use xp_sink::RecordSink;
 use xp_subs::Subs;
-use xp_tcp::{Door, Ends, LinePort, Notices, OpenGate, Sockets, TcpClock, TcpPoller};
+use xp_tcp::{Door, Ends, LinePlaces, LinePort, OpenGate, Sockets, TcpClock, TcpPoller};
 
 /// How many lines are few enough for one thread.
 const LINES_OF_A_THREAD: usize = 8;
@@ -43,7 +43,7 @@ pub struct ServeEnd<K: RecordKeeper> {
 }
 
 /// Listens on the port of each line, and for the routers of lines, and serves all lines by [`serve_on`] until they have ended. The keeper has each charging
-/// record as its call ends, in the order in which the calls end. What an operator has to see of the lines is told by `notices`.
+/// record as its call ends, in the order in which the calls end. What an operator has to see of the lines is told by the notices of the places.
 ///
 /// # Errors
 ///
@@ -60,7 +60,7 @@ pub fn serve<
     alloc: Global,
     subs: Subs,
     limits: Limits,
-    notices: Arc<Notices>,
+    places: Arc<LinePlaces>,
     keeper: K,
 ) -> ServeEnd<K>
     requires names { K.named_by keeper ≡ subs }
@@ -75,7 +75,7 @@ pub fn serve<
             outcome: Err(ServeFailure::Host),
         };
     };
-    serve_at(rt, alloc, subs, host, limits, notices, keeper)
+    serve_at(rt, alloc, subs, host, limits, places, keeper)
 }
 
 /// Serves all lines at an address of the machine.
@@ -88,7 +88,7 @@ fn serve_at<
     subs: Subs,
     host: IpAddr,
     limits: Limits,
-    notices: Arc<Notices>,
+    places: Arc<LinePlaces>,
     keeper: K,
 ) -> ServeEnd<K>
     requires names { K.named_by keeper ≡ subs }
@@ -97,7 +97,7 @@ fn serve_at<
     ensures { Serves K.kept K.keeps subs keeper result.keeper result.outcome }
 {
     let threads = threads_for(rt, subs.counts().lines);
-    let sockets = match listen_all(rt, alloc, &subs, host, threads, notices) {
+    let sockets = match listen_all(rt, alloc, &subs, host, threads, places) {
         Ok(sockets) => sockets,
         Err(failure) => {
             return ServeEnd {
