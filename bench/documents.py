@@ -121,11 +121,29 @@ line = [
 """
 OTHER_MODULUS = CHANGED.replace("port = 19982", "port = 19982, modulus = 128")
 
+# A file of one line with spare places, and one with a station more than a file with them, which is made of examples/three-stations.toml.
+SPARE = """spare_lines = 20
+spare_lines_128 = 4
+[[station]]
+address = "2080010"
+line = [{ name = "a1", port = 19981 }]
+"""
+NEW_STATION = """[[station]]
+address = "2080040"
+line = [{ name = "d1", port = 19986 }]
+"""
+AFTER_SPARE = (
+    "echo 'spare_lines = 1' | cat - examples/three-stations.toml > spare.toml; cat spare.toml - > more.toml; "
+    "xp check more.toml --after spare.toml"
+)
+
 # What prints the blocks that no command of their document prints, by the document and their first words: a command, and its input.
 PRINTED_BY = {
     ("docs/OPERATING.md", "xp: explain: a line that is named"): ("xp explain examples/three-stations.toml 2080030 2080020", ""),
     ("docs/OPERATING.md", "stations 3 lines 5 groups 1"): ("xp check - --after examples/three-stations.toml", CHANGED),
     ("docs/OPERATING.md", "needs a stop: line b1"): ("xp check - --after examples/three-stations.toml", OTHER_MODULUS),
+    ("docs/OPERATING.md", "stations 1 lines 1 groups 0 spare"): ("xp check -", SPARE),
+    ("docs/OPERATING.md", "d1: station 2080040 is new"): (AFTER_SPARE, NEW_STATION),
     ("docs/FORMATS.md", "xp: subscriptions: field port"): ("xp check -", NO_PORT),
     ("docs/FORMATS.md", "xp: script line 3"): ("xp replay examples/three-stations.toml", "up a1\n\nup x9\n"),
     ("docs/FORMATS.md", "12  a1 → exchange"): ("xp replay examples/three-stations.toml --words", CALL_OF_A_MINUTE),

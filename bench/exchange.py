@@ -264,7 +264,7 @@ class Run:
 
     def __init__(self, seed):
         self.chance = random.Random(seed)
-        self.exchange = model.Exchange(model.tomllib.loads(SUBSCRIPTIONS))
+        self.exchange = model.Exchange(model.tomllib.loads(SUBSCRIPTIONS), {})
         self.script, self.text, self.kinds = [], [], Counter()
         self.origins = []  # the line of the script, about, from which each line of the text comes
         self.dtes = {name: Dte(name, self.chance) for name in ADDRESSES}

@@ -258,7 +258,7 @@ def serve_asks_for_a_reload_by_a_signal(tree):
 
 def serve_without_a_file_has_no_word_of_the_launcher(tree):
     tree.run("prove")
-    options = ("--cdr", "--cdr-dir", "--console", "--live", "--name", "--records", "--trace", "--trace-lines", "--turns")
+    options = ("--cdr", "--cdr-dir", "--console", "--live", "--name", "--records", "--threads", "--trace", "--trace-lines", "--turns")
     for words in ((), ("--help",), ("--quiet", "--"), *((option, "x") for option in options), *((option,) for option in options)):
         yield tree.run("serve", *words, status=2), (2, output_of("proved", "serve", *words), "")
     yield tree.run("--unproved", "serve", status=2)[:2], (2, output_of("unproved", "serve"))

@@ -2,9 +2,9 @@
 """What a script comes to, by a plain model of the exchange (docs/PROTOCOL.md), written beside the program and not from it.
 
 It is whole for a call's data transfer and its charging: both moduli, windows, flow control, interrupts, resets, segments,
-duration. Of the rest it knows what calls need: lines that come and go, calls between stations without groups and
-redirection, refusals, fast select, packet and window sizes, clearing, procedure errors. A script that asks for more is
-beyond it, and it says so.
+duration. Of the rest it knows what calls need: lines that come and go, also as other subscriptions come into force, calls
+between stations without groups and redirection, refusals, fast select, packet and window sizes, clearing, procedure errors.
+A script that asks for more is beyond it, and it says so.
 
     model.py FOLDER ..          compares what rows expect with what the model says
     model.py --write FOLDER ..  writes that as what they expect
@@ -206,6 +206,7 @@ class Line:
     address: str
     station: dict
     modulus: int
+    access: object  # its port or its router
     state: str = "off"
     identifier: int = 1
     stream: bytes = b""
@@ -255,20 +256,59 @@ def items(field):
 
 
 class Exchange:
-    def __init__(self, subscriptions):
+    def __init__(self, subscriptions, tables):
+        """`tables` are the subscriptions that lines of the script may bring, by their names."""
+        self.tables = tables
+        # The line of each place, and the places' moduli.
+        self.places = self.read(subscriptions)
+        self.moduli = [line.modulus for line in self.places]
+        for key, modulus in (("spare_lines", 8), ("spare_lines_128", 128)):
+            self.moduli += [modulus] * subscriptions.get(key, 0)
+        self.places += [None] * (len(self.moduli) - len(self.places))
+        self.limit = subscriptions.get("segment_limit", MOST_SEGMENTS)
+        self.calls = self.moment = 0
+
+    def read(self, subscriptions, known_lines=()):
+        """The lines of subscriptions, which are in force from now on. A line that stays is one of those that are known."""
+        stay = {(line.name, line.access): line for line in known_lines if line}
         self.lines, self.beyond, self.targets = {}, set(), {}
         for station in subscriptions["station"]:
             known = not station.keys() - KNOWN_KEYS
             for entry in station["line"]:
-                own = entry.get("address", station["address"])
-                line = Line(entry["name"], own if known else None, station, entry.get("modulus", 8))
+                own, access = entry.get("address", station["address"]), entry.get("port") or entry["router"]
+                line = stay.get((entry["name"], access)) or Line(entry["name"], None, station, entry.get("modulus", 8), access)
+                line.address, line.station = own if known else None, station
                 self.lines[line.name] = line
                 for address in {station["address"], own}:
                     self.targets.setdefault(address, []).append(line)
                 if not known:
                     self.beyond |= {station["address"], own}
-        self.limit = subscriptions.get("segment_limit", MOST_SEGMENTS)
-        self.calls = self.moment = 0
+        return list(self.lines.values())
+
+    def reload(self, subscriptions):
+        """Other subscriptions come into force: the lines that go are given up, in the order of places, and then others come."""
+        if any(station.keys() - KNOWN_KEYS for station in subscriptions["station"]):
+            raise Beyond("keys of subscriptions that come into force")
+        entries = {entry["name"]: entry for station in subscriptions["station"] for entry in station["line"]}
+        for line in filter(None, self.places):
+            entry = entries.get(line.name)
+            if not entry or (entry.get("port") or entry["router"]) != line.access:
+                self.down(line)
+        before, self.places = self.places, [None] * len(self.places)
+        later = []
+        for line in self.read(subscriptions, before):
+            was = [place for place, old in enumerate(before) if old and old.name == line.name]
+            if was and self.moduli[was[0]] != line.modulus:
+                raise Beyond("a line of another modulus")
+            if was:
+                self.places[was[0]] = line
+            else:
+                later.append(line)
+        for line in later:
+            free = [place for place, other in enumerate(self.places) if not other and self.moduli[place] == line.modulus]
+            if not free:
+                raise Beyond("a line without a place")
+            self.places[free[0]] = line
 
     def play(self, text):
         """What a line of a script comes to, as lines."""
@@ -279,6 +319,9 @@ class Exchange:
         if words[0] == "at":
             self.moment = int(words[1])
             return []
+        if words[0] == "tables":
+            self.reload(self.tables[words[1]])
+            return self.told
         line = self.lines[words[1]]
         if words[0] == "up" and line.state == "off":
             line.state, line.identifier, line.stream = "p1", 1, b""
@@ -500,7 +543,8 @@ def text_of(folder):
     """What the script of a row comes to."""
     if (folder / "status").exists():
         raise Beyond("a replay that ends with a fault")
-    exchange = Exchange(tomllib.loads((folder / "subs.toml").read_text()))
+    tables = {path.name: tomllib.loads(path.read_text()) for path in folder.glob("tables/*")}
+    exchange = Exchange(tomllib.loads((folder / "subs.toml").read_text()), tables)
     lines = (folder / "script").read_text().splitlines()
     return "".join(told + "\n" for line in lines for told in exchange.play(line))
 

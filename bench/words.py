@@ -294,10 +294,12 @@ def from_words(text):
     """What the lines of words tell, in order: what came, and what went."""
     came, went = [], []
     for line in text.splitlines():
-        if re.match(r"\d+  record of call \d+: ", line):
+        if re.match(r"\d+  (record of call \d+: |tables \w+ are in force)", line):
             continue
         found = re.match(r"\d+  (?:(\w+) → exchange|exchange → (\w+))  (.*)$", line, re.S)
         what = found[3]
+        if what in ("given up", "connection closed"):
+            continue
         if found[2]:
             went.append(Told("to", found[2], read_packet(what)))
         elif what in ("connection comes", "connection goes", "no answer in time (T11)"):
@@ -309,9 +311,16 @@ def from_words(text):
     return came, went
 
 
-def events_of(lines, moduli):
+def lines_of(file):
+    """The lines of a subscription file by their names, each with its modulus and its port or router."""
+    with open(file, "rb") as text:
+        stations = tomllib.load(text)["station"]
+    return {line["name"]: (line.get("modulus", 8), line.get("port", line.get("router"))) for station in stations for line in station["line"]}
+
+
+def events_of(lines, folder):
     """What comes in by the lines of a script, as docs/FORMATS.md has it."""
-    came, streams = [], {}
+    came, streams, force = [], {}, lines_of(os.path.join(folder, "subs.toml"))
     for line in lines:
         verb, _, rest = line.partition(b" ")
         name, _, digits = rest.partition(b" ")
@@ -324,8 +333,12 @@ def events_of(lines, moduli):
             came.append(Told("from", name, "connection goes"))
         elif verb == b"expire":
             came.append(Told("from", name, "no answer in time (T11)"))
+        elif verb == b"tables":
+            before, force = force, lines_of(os.path.join(folder, "tables", name))
+            # A line that goes is out of service.
+            streams = {line: octets for line, octets in streams.items() if force.get(line) == before[line]}
         elif verb == b"in" and name in streams:
-            frames_of(name, streams, bytes.fromhex(digits.decode()), moduli[name], came)
+            frames_of(name, streams, bytes.fromhex(digits.decode()), force[name][0], came)
     return came
 
 
@@ -348,13 +361,18 @@ def frames_of(name, streams, octets, modulus, came):
     streams[name] = rest
 
 
+def tables_of(folder):
+    """The files of subscriptions that the script may bring into force, by their names."""
+    tables = os.path.join(folder, "tables")
+    return {name: os.path.join(tables, name) for name in sorted(os.listdir(tables))} if os.path.isdir(tables) else {}
+
+
 def from_octets(folder):
     """The same from the octets of a row: its script, and the frames that it expects."""
-    with open(os.path.join(folder, "subs.toml"), "rb") as file:
-        stations = tomllib.load(file)["station"]
-    moduli = {line["name"]: line.get("modulus", 8) for station in stations for line in station["line"]}
+    files = [os.path.join(folder, "subs.toml"), *tables_of(folder).values()]
+    moduli = {name: modulus for file in files for name, (modulus, _) in lines_of(file).items()}
     with open(os.path.join(folder, "script"), "rb") as file:
-        came = events_of(file.read().split(b"\n"), moduli)
+        came = events_of(file.read().split(b"\n"), folder)
     went = []
     with open(os.path.join(folder, "expected"), encoding="utf-8") as file:
         for line in file:
@@ -373,7 +391,8 @@ def main():
         if row.startswith("wrong_on_purpose") or not os.path.exists(os.path.join(folder, "script")) or not os.path.exists(os.path.join(folder, "expected")):
             continue
         with open(os.path.join(folder, "script"), "rb") as script:
-            run = subprocess.run([*command, "replay", os.path.join(folder, "subs.toml"), "--words"], stdin=script, capture_output=True, check=False)
+            words = [word for name, file in tables_of(folder).items() for word in ("--tables", f"{name}={file}")]
+            run = subprocess.run([*command, "replay", os.path.join(folder, "subs.toml"), "--words", *words], stdin=script, capture_output=True, check=False)
         if run.returncode:
             print(f"{row}: not told to its end: {run.stderr.decode().strip()}")
             continue

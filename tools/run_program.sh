@@ -5,7 +5,7 @@ names_a_file() {
   while [ $# != 0 ]; do
     case $1 in
       --) [ $# -gt 1 ]; return ;;
-      --cdr | --cdr-dir | --console | --live | --name | --records | --trace | --trace-lines | --turns) shift ;;
+      --cdr | --cdr-dir | --console | --live | --name | --records | --threads | --trace | --trace-lines | --turns) shift ;;
       -?*) ;;
       *) return 0 ;;
     esac

@@ -47,6 +47,7 @@ SCRIPTS = [
     Script("subscriptions.py", "--stations 32 --runs 1", "reading subscriptions takes time in proportion to them", 10, "--runs 5"),
     Script("serve/console.py", "", "the console: answers, what it shows, its stop", 40),
     Script("serve/reload.py", "--reloads 200", "other subscriptions come into force under calls of data", 30, ""),
+    Script("serve/reload_lines.py", "--reloads 8", "lines that come and go while the exchange serves", 40, ""),
     Script("serve/page.py", "", "the console's page in a browser, where there is one", 15),
     Script("serve/records_file.py", "", "the file of call detail records", 40),
     Script("serve/live_calls.py", "", "the file of live calls, and what the start after a kill makes of it", 70),
@@ -70,7 +71,7 @@ SCRIPTS = [
     Script("serve/hostile.py", "20 --most 2000", "a good pair beside hostile lines: octets, times, memory", 25, "20 --most 50"),
     Script("serve/memory.py", "--events 60000 --calls 4000 --first 16000 --most 10", "memory under data, and under calls that come and go", 90,
            "--events 1000000 --calls 100000 --most 3"),
-    Script("serve/soak.py", "20 --pairs 32 --growth 20000", "calls that come and go at random: octets and records", 40, "20"),
+    Script("serve/soak.py", "20 --pairs 32 --growth 20000 --threads lines", "calls that come and go at random, a thread for each line: octets and records", 40, "20 --threads lines"),
     Script("serve/metrics_format.py", "--serve", "the metrics of an exchange are in Prometheus' text format", 5),
     Script("serve/metrics_named.py", "", "alerts, dashboard and OPERATING.md name the metrics of an exchange", 5),
     Script("serve/two_machines.py", "", "two machines and an address that keepalived moves: lines, calls, records (takes root)", 45),
@@ -83,7 +84,7 @@ TIMED = ("serve/", "documents.py", "subscriptions.py")
 MOST_OF_SCRIPT, MOST_OF_BUILD = 600, 1200
 
 # The scripts of bench/ that are no tests: measurements, and what is read beside another program.
-NO_TESTS = {"instructions.py", "model.py", "words_tshark.py", "serve/allocations.py", "serve/many.py", "serve/reload_load.py", "serve/router_load.py", "serve/run.py"}
+NO_TESTS = {"instructions.py", "model.py", "words_tshark.py", "serve/allocations.py", "serve/asked.py", "serve/many.py", "serve/reload_load.py", "serve/router_load.py", "serve/run.py"}
 
 
 def launcher(is_proved):

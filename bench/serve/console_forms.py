@@ -6,6 +6,7 @@ STATES = ("out of service", "ready", "DTE waiting", "DCE waiting", "data transfe
 
 METRICS = (
     ("lines", "gauge", "Lines, by the state of their channel."),
+    ("spare_lines", "gauge", "Places for lines that a reload may bring."),
     ("calls_live", "gauge", "Calls that have not ended."),
     ("calls_total", "counter", "Call requests, with those that were refused."),
     ("refused_total", "counter", "Call requests that were refused, by the clearing cause."),
@@ -24,10 +25,11 @@ METRICS = (
 
 
 def wanted_metrics(status):
-    """The metrics of a status."""
+    """The metrics of a status, of an exchange without a spare line."""
     totals, states = status["totals"], [line["state"] for line in status["lines"]]
     values = {
         "lines": [('{state="%s"}' % state, states.count(state)) for state in STATES],
+        "spare_lines": [("", 0)],
         "calls_live": [("", len(status["calls"]))],
         "calls_total": [("", totals["calls"])],
         "refused_total": [('{cause="%s"}' % refused["words"], refused["count"]) for refused in totals["refused"]],

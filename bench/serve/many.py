@@ -32,7 +32,11 @@ CALLS = 256
 PATHS = ("/metrics", "/status.json")
 
 # The runs with and without questions, how long each sends, and when it is asked, in seconds.
-RUNS, RUN_SECONDS, ASKED_AFTER = 40, 0.3, 0.05
+RUNS, RUN_SECONDS, ASKED_AFTER = 40, 0.3, 0.65
+
+# Seconds until the exchange has seen the ends of the connections of the run before: an end right behind the last octets is seen within
+# half a second.
+SETTLING = 0.6
 
 TITLES = ("lines", "start s", "memory", "idle %", "trip", "99 %", "longest", "90 %", "asked", "90 %", "packets/s", "metrics ms", "status ms", "octets")
 
@@ -101,6 +105,8 @@ def play(load, exchange, pairs, window, seconds, gap=0):
     """What the load generator tells of calls on the first so many pairs."""
     threads = min(os.cpu_count(), pairs)
     command = [load, exchange.base, pairs, window, seconds, threads, *([gap] if gap else [])]
+    # A connection to the port of a line whose last one has yet to be seen as ended is closed.
+    time.sleep(SETTLING)
     run = subprocess.run([str(part) for part in command], capture_output=True, text=True)
     if run.returncode != 0:
         sys.exit(f"the load ended with status {run.returncode}: {run.stderr.strip()}; {exchange.said()}")

@@ -23,7 +23,7 @@ LEAST_SHARE = 0.95
 
 LINES = 4_096
 # The runs with and without a reload, how long each sends, and when the reload is asked for, in seconds.
-RUNS, RUN_SECONDS, ASKED_AFTER = 20, 1.5, 0.2
+RUNS, RUN_SECONDS, ASKED_AFTER = 20, 1.5, 0.8
 # Milliseconds for which a reload may hold up a call.
 MOST = 5
 

@@ -17,26 +17,37 @@ import time
 
 import server
 
-# Pairs of lines, window, and milliseconds between packets (0: as many as the window lets through).
-Load = collections.namedtuple("Load", "pairs window gap")
+# Pairs of lines, window, milliseconds between packets (0: as many as the window lets through), threads of the load, words of `xp serve`,
+# and on how many of the machine's first processors what serves runs, and on how many of its last ones the load does (0: on all).
+Load = collections.namedtuple("Load", "pairs window gap threads words serving loading", defaults=(0, os.cpu_count(), (), 0, 0))
 
-# Threads of the load and of the relay; an exchange has one for each line.
-THREADS = os.cpu_count()
+PROCESSORS = sorted(os.sched_getaffinity(0))
+
+# Threads of the load where calls press on a server that has all processors.
+PRESSING = 32
 
 LOADS = {
-    "window-1": Load(1, 1, 0),
-    "window-7": Load(1, 7, 0),
-    "calls-16": Load(16, 7, 0),
-    "calls-128": Load(128, 7, 0),
+    "window-1": Load(1, 1),
+    "window-7": Load(1, 7),
+    "calls-16": Load(16, 7),
+    "calls-128": Load(128, 7),
     "crossing-10": Load(1, 1, 10),
     "crossing-100": Load(1, 1, 100),
+}
+# These have to be named, or asked for by `--pinned`.
+PINNED = {
+    "one-core": Load(32, 7, serving=1, loading=3, threads=PRESSING),
+    "two-cores": Load(32, 7, serving=2, loading=2, threads=PRESSING),
+    "four-threads": Load(32, 7, threads=PRESSING),
+    "two-threads": Load(32, 7, threads=PRESSING, words=("--threads", 2)),
+    "lines-threads": Load(32, 7, threads=PRESSING, words=("--threads", "lines")),
 }
 IDLE = "idle"
 
 # The round trip at window 1 may take so many times the relay's.
 MOST_TIMES = 1.35
 # Of the relay's packets a second so many have to pass.
-LEAST_SHARES = {"calls-16": 0.8, "calls-128": 0.7}
+LEAST_SHARES = {"calls-16": 0.8, "calls-128": 0.7, "one-core": 0.85, "four-threads": 0.8}
 
 # So many times as many rounds as are wanted may be left out.
 MOST_OTHERS = 20
@@ -49,9 +60,9 @@ TITLES = ("", "", "packets/s", "mean", "median", "99 %", "most", "processor", "s
 
 def play(program, served, load, seconds):
     """What the load generator tells of one run, and the processor time of the program that was served, for a packet."""
-    command = [program, served.base, load.pairs, load.window, seconds, min(THREADS, load.pairs), *([load.gap] if load.gap else [])]
+    command = [program, served.base, load.pairs, load.window, seconds, min(load.threads, load.pairs), *([load.gap] if load.gap else [])]
     before, stolen, begun = served.processor(), server.stolen(), time.monotonic()
-    run = subprocess.run([str(part) for part in command], capture_output=True, text=True)
+    run = subprocess.run(server.on(PROCESSORS[-load.loading :] if load.loading else (), command), capture_output=True, text=True)
     if run.returncode != 0:
         sys.exit(f"the load ended with status {run.returncode}: {run.stderr.strip()}; {served.said()}")
     told = json.loads(run.stdout)
@@ -72,9 +83,11 @@ def check_records(records, packets):
 
 def measure(programs, load, seconds, folder):
     """One run of a load over the relay, and one over the exchange."""
-    with server.Relay(programs["relay"], folder, load.pairs, min(THREADS, load.pairs)) as relay:
+    processors = PROCESSORS[: load.serving]
+    threads = min(len(processors or PROCESSORS), load.pairs)
+    with server.Relay(programs["relay"], folder, load.pairs, threads, processors) as relay:
         over_relay = play(programs["load"], relay, load, seconds)
-    with server.Exchange(programs["xp"], folder, load.pairs, load.pairs) as exchange:
+    with server.Exchange(programs["xp"], folder, load.pairs, load.pairs, load.words, processors) as exchange:
         over_exchange = play(programs["load"], exchange, load, seconds)
         check_records(exchange.records(), over_exchange["packets"])
     return over_relay, over_exchange
@@ -126,8 +139,8 @@ def quiet_rounds(programs, load, arguments, folder):
     return kept, others
 
 
-def compare(programs, name, arguments, folder):
-    runs, others = quiet_rounds(programs, LOADS[name], arguments, folder)
+def compare(programs, name, load, arguments, folder):
+    runs, others = quiet_rounds(programs, load, arguments, folder)
     relay, exchange = (middle(of) for of in zip(*runs))
     tell(name, "relay", relay)
     tell("", "exchange", exchange)
@@ -176,7 +189,8 @@ def main():
     parser.add_argument("--seconds", type=float, default=5, help="how long each run sends (default: 5)")
     parser.add_argument("--rounds", type=int, default=3, help="runs of each measurement, of which the median is told (default: 3)")
     parser.add_argument("--stolen", type=float, default=100, help="leave rounds out in which the host of a virtual machine took more than so many percent of its processors")
-    parser.add_argument("--only", choices=[*LOADS, IDLE], action="append", help="this measurement only; may be given again")
+    parser.add_argument("--only", choices=[*LOADS, *PINNED, IDLE], action="append", help="this measurement only; may be given again")
+    parser.add_argument("--pinned", action="store_true", help="the measurements with processors and threads of their own, on four processors at least")
     arguments = parser.parse_args()
 
     with tempfile.TemporaryDirectory() as folder:
@@ -184,11 +198,11 @@ def main():
         programs["xp"] = arguments.xp
         print(f"rounds of {arguments.seconds:g} seconds: {arguments.rounds}; times in microseconds; processor: microseconds a packet")
         row(*TITLES)
-        for name in arguments.only or [*LOADS, IDLE]:
+        for name in arguments.only or (PINNED if arguments.pinned else [*LOADS, IDLE]):
             if name == IDLE:
                 tell_idle(programs, arguments.seconds, arguments.rounds, folder)
             else:
-                compare(programs, name, arguments, folder)
+                compare(programs, name, {**LOADS, **PINNED}[name], arguments, folder)
 
 
 if __name__ == "__main__":

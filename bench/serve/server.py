@@ -89,14 +89,20 @@ def stolen():
     return int(fields[8]) / os.sysconf("SC_CLK_TCK")
 
 
+def on(processors, command):
+    """A command that runs on these processors alone, if any are named."""
+    words = [str(part) for part in command]
+    return ["taskset", "--cpu-list", ",".join(map(str, processors)), *words] if processors else words
+
+
 class Process:
     """A program that serves connections, started now and ended with the block at the latest."""
 
-    def __init__(self, command, folder):
+    def __init__(self, command, folder, processors=()):
         self.errors = pathlib.Path(folder) / "errors"
         self.output = pathlib.Path(folder) / "output"
         with self.errors.open("w") as errors, self.output.open("w") as output:
-            self.process = subprocess.Popen([str(part) for part in command], stdin=subprocess.DEVNULL, stdout=output, stderr=errors)
+            self.process = subprocess.Popen(on(processors, command), stdin=subprocess.DEVNULL, stdout=output, stderr=errors)
 
     def __enter__(self):
         return self
@@ -126,33 +132,41 @@ class Process:
         fields = pathlib.Path(f"/proc/{self.process.pid}/stat").read_text().rpartition(")")[2].split()
         return (int(fields[11]) + int(fields[12])) / os.sysconf("SC_CLK_TCK")
 
+    def told_of(self, name):
+        """What the system tells of it under this name, as a number; 0 where it has ended."""
+        for line in pathlib.Path(f"/proc/{self.process.pid}/status").read_text().splitlines():
+            if line.startswith(f"{name}:"):
+                return int(line.split()[1])
+        return 0
+
     def memory(self):
         """The octets of memory that it has in use."""
-        for line in pathlib.Path(f"/proc/{self.process.pid}/status").read_text().splitlines():
-            if line.startswith("VmRSS:"):
-                return int(line.split()[1]) * 1024
-        return 0
+        return self.told_of("VmRSS") * 1024
+
+    def threads(self):
+        """How many threads it has."""
+        return self.told_of("Threads")
 
 
 class Relay(Process):
     """The bare relay over so many pairs of ports."""
 
-    def __init__(self, program, folder, pairs, threads):
+    def __init__(self, program, folder, pairs, threads, processors=()):
         self.base = free_ports(2 * pairs)
-        super().__init__([program, self.base, pairs, threads], folder)
+        super().__init__([program, self.base, pairs, threads], folder, processors)
 
 
 class Serving(Process):
     """`xp serve` over so many lines, until there are so many records. `subscriptions_on` makes its file, of the first of
-    the lines' ports."""
+    the lines' ports. `words` are further words of the command."""
 
-    def __init__(self, program, folder, lines, subscriptions_on, records):
+    def __init__(self, program, folder, lines, subscriptions_on, records, words=(), processors=()):
         if not pathlib.Path(program).is_file():
             sys.exit(f"there is no program {program}")
         self.base = free_ports(lines)
         file = pathlib.Path(folder) / "subscriptions.toml"
         file.write_text(subscriptions_on(self.base))
-        super().__init__([program, "serve", file, "--records", records], folder)
+        super().__init__([program, "serve", file, "--records", records, *words], folder, processors)
 
     def records(self, patience=60):
         """The records that it prints as it ends of itself. It has to end well."""
@@ -168,8 +182,8 @@ class Serving(Process):
 class Exchange(Serving):
     """The same over so many pairs of lines."""
 
-    def __init__(self, program, folder, pairs, records):
-        super().__init__(program, folder, 2 * pairs, functools.partial(subscriptions, pairs), records)
+    def __init__(self, program, folder, pairs, records, words=(), processors=()):
+        super().__init__(program, folder, 2 * pairs, functools.partial(subscriptions, pairs), records, words, processors)
 
 
 def read_record(line):

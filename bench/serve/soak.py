@@ -34,6 +34,12 @@ OCTETS = 20
 
 SAMPLES = 20
 
+# The threads that serve no line: they take the records, keep them, and attend to the lines.
+OTHER_THREADS = 3
+
+# Seconds within which all threads have to be there.
+PATIENCE = 60
+
 
 class Line:
     """A line as its host sees it."""
@@ -326,20 +332,35 @@ def check_memory(samples, most):
         sys.exit("the memory grows by more than the records")
 
 
+def check_threads(exchange, asked, lines):
+    """There are as many threads as were asked for, beside those that serve no line."""
+    if asked is None:
+        return
+    wanted = lines if asked == "lines" else min(int(asked), lines)
+    last = time.monotonic() + PATIENCE
+    while exchange.threads() != wanted + OTHER_THREADS:
+        if time.monotonic() > last:
+            sys.exit(f"soak: {exchange.threads()} threads, not {wanted} for the lines and {OTHER_THREADS} others; {exchange.said()}")
+        time.sleep(0.05)
+
+
 def main():
     parser = argparse.ArgumentParser(description=__doc__.splitlines()[0])
     parser.add_argument("seconds", type=float, help="how long calls begin")
     parser.add_argument("--xp", default=str(server.PROGRAM), help=f"the built program ({server.DEFAULT})")
     parser.add_argument("--pairs", type=int, default=server.MOST_PAIRS, help="pairs of lines (default: 128)")
     parser.add_argument("--seed", type=int, help="what the choices follow from (default: at random)")
+    parser.add_argument("--threads", help="`--threads` of the exchange (default: without it)")
     parser.add_argument("--growth", type=int, default=OCTETS, help=f"octets of memory for an event in the second half (default: {OCTETS})")
     arguments = parser.parse_args()
 
     seed = random.SystemRandom().randrange(1 << 32) if arguments.seed is None else arguments.seed
     wanted = max(1, int(RATE * arguments.pairs * arguments.seconds))
     print(f"seed {seed}, {2 * arguments.pairs} lines, {wanted:,} calls in {arguments.seconds:g} seconds", flush=True)
-    with tempfile.TemporaryDirectory() as folder, server.Exchange(arguments.xp, folder, arguments.pairs, wanted) as exchange:
+    words = ("--threads", arguments.threads) if arguments.threads else ()
+    with tempfile.TemporaryDirectory() as folder, server.Exchange(arguments.xp, folder, arguments.pairs, wanted, words) as exchange:
         soak = Soak(exchange, arguments.pairs, wanted, arguments.seconds, seed)
+        check_threads(exchange, arguments.threads, 2 * arguments.pairs)
         soak.run()
         records = exchange.records()
     calls.check(soak.calls, records)

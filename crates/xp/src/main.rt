@@ -24,6 +24,7 @@ use std::{env, fs, io};
 use xp_arguments::{
     Arguments, CheckOrder, QuestionOrder, ReplayOrder, ServeOrder, Subcommand, refused,
 };
+use xp_changes::ToldChanges;
 use xp_commands::{
     CommandFailure, ask_console, changes_after, check_file, explain_call, file_text, named_file,
     print_changes, print_text, replay_script, subscriptions_of,
@@ -107,8 +108,9 @@ fn check<R: AllocGlobal + Files<File = File> + Input + Net + Print>(
     order: &CheckOrder<'_>,
     file: &str,
 ) -> Result<(), Failure> {
-    let subs = subscriptions_in(rt, file)?;
-    let changes = changes_after(rt, order.after, &subs)?;
+    let text = file_text(rt, file);
+    let subs = subscriptions_of(rt, file, &text)?;
+    let changes = changes_of(rt, order, file, &text)?;
     check_readiness(rt, &subs, order.depth)?;
     let warning = refusal_warning(rt, &subs, order.form)?;
     check_file(rt, order.form, subs)?;
@@ -116,6 +118,22 @@ fn check<R: AllocGlobal + Files<File = File> + Input + Net + Print>(
     match changes {
         Some(told) => Ok(print_changes(rt, &told)?),
         None => Ok(()),
+    }
+}
+
+/// What changes as the subscriptions of a file of this text come into force after those of another one, if one is named.
+fn changes_of<R: AllocGlobal + Files<File = File>>(
+    rt: &R,
+    order: &CheckOrder<'_>,
+    file: &str,
+    text: &io::Result<String>,
+) -> Result<Option<ToldChanges>, CommandFailure> {
+    match order.after {
+        Some(old) => {
+            let new = subscriptions_of(rt, file, text)?;
+            Ok(Some(changes_after(rt, old, new)?))
+        }
+        None => Ok(None),
     }
 }
 

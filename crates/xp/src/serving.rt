@@ -29,14 +29,14 @@ use xp_limits::Limits;
 use xp_live::LiveKeeper;
 use xp_observer::{BoardName, StatusBoard};
 use xp_readiness::{Failure, Tracing, opening};
-use xp_renewal::SubscriptionFile;
+use xp_renewal::{Renewal, SubscriptionFile};
 use xp_serve::{
     Attending, ConsoleFeed, LiveWatch, NoConsole, OperatorWatch, ServeEnd, StopInput, TracedWatch,
     Watch, serve_attended,
 };
 use xp_subs::Subs;
 use xp_tasks::TaskFailure;
-use xp_tcp::Notices;
+use xp_tcp::{LinePlaces, Notices};
 use xp_tracing::TraceThread;
 
 /// The subscriptions of the lines that are served, once for each who needs them.
@@ -54,6 +54,12 @@ pub(crate) struct CopiedSubs {
 
 /// The subscription file of the lines that are served.
 pub(crate) type ServedFile = SubscriptionFile<HostRuntime>;
+
+/// What watches over the lines, begins their trace, and keeps their live calls.
+type ServedWatch<R, F> = LiveWatch<TracedWatch<OperatorWatch<R, F, ServedRenewal<R>>, R>, R>;
+
+/// Where other subscriptions come from.
+type ServedRenewal<R> = Renewal<HostRuntime, R>;
 
 /// What prints charging records on a thread of its own.
 type PrintingKeeper<R> = QueuedKeeper<RecordPrinter<BufWriter<StandardOutput<HostRuntime>>>, R>;
@@ -210,6 +216,9 @@ pub(crate) fn attend<
     } = beside;
     let notices = tracing.notices(alloc, clock.start)?;
     let notices = Arc::new(alloc, notices).map_err(|_| TaskFailure::Memory)?;
+    let places = LinePlaces::new(Arc::try_clone(&notices)?);
+    let places = Arc::new(alloc, places).map_err(|_| TaskFailure::Memory)?;
+    let renewal = Renewal::new(file, *rt, Arc::try_clone(&places)?);
     let console = match order.console {
         Some(address) => Some(ServedConsole::listen(rt, address)?),
         None => None,
@@ -221,10 +230,11 @@ pub(crate) fn attend<
         limits: order.limits,
         clock,
         notices,
+        places,
         trace: tracing.thread,
         live,
         partial_records,
-        file,
+        renewal,
     };
     attend_named::<Brand, R, K>(rt, console, watching, subs, keeper)
 }
@@ -239,11 +249,12 @@ struct Watching<R: Log + Wait> {
     limits: Limits,
     clock: WallClock,
     notices: Arc<Notices>,
+    /// What the lines are connected by.
+    places: Arc<LinePlaces>,
     trace: Option<TraceThread<R>>,
     live: Option<LiveKeeper<R>>,
     partial_records: u64,
-    /// Where other subscriptions come from.
-    file: ServedFile,
+    renewal: ServedRenewal<R>,
 }
 
 impl<R: Drop + Log + Wait> Drop for Watching<R> {
@@ -255,15 +266,25 @@ impl<R: Drop + Log + Wait> Drop for Watching<R> {
             limits: _,
             clock: _,
             notices: _,
+            places: _,
             trace: _,
             live: _,
             partial_records: _,
-            file: _,
+            renewal: _,
         } = self;
     }
 }
 
-impl<R: Copy + Drop + Log + Send + Threads + Wait + 'static> Watching<R> {
+impl<
+    R: Copy
+        + Drop
+        + Log
+        + Net<Listener = TcpListener, Stream = TcpStream>
+        + Send
+        + Threads
+        + Wait
+        + 'static,
+> Watching<R> {
     /// What feeds the console over this board.
     fn feed<B: BoardName>(
         &self,
@@ -286,11 +307,7 @@ impl<R: Copy + Drop + Log + Send + Threads + Wait + 'static> Watching<R> {
     }
 
     /// What watches over the lines, begins their trace, and keeps their live calls.
-    fn watch<F: ConsoleFeed>(
-        self,
-        alloc: Global,
-        console: F,
-    ) -> Result<LiveWatch<TracedWatch<OperatorWatch<R, F, ServedFile>, R>, R>, Failure>
+    fn watch<F: ConsoleFeed>(self, alloc: Global, console: F) -> Result<ServedWatch<R, F>, Failure>
         requires { IfSome self.live (λ live. live.opening ≡ F.tables) }
     {
         let Watching {
@@ -300,12 +317,13 @@ impl<R: Copy + Drop + Log + Send + Threads + Wait + 'static> Watching<R> {
             limits: _,
             clock,
             notices,
+            places: _,
             trace,
             live,
             partial_records: _,
-            file,
+            renewal,
         } = self;
-        let watch = OperatorWatch::new(alloc, file, notices, console, clock, log)?;
+        let watch = OperatorWatch::new(alloc, renewal, notices, console, clock, log)?;
         let watch = watch.with_stop(stop).with_opening(opening);
         let watch = TracedWatch::new(watch, trace);
         Ok(LiveWatch::new(watch, live))
@@ -344,13 +362,13 @@ fn attend_named<
 {
     let alloc = rt.alloc();
     let limits = watching.limits;
-    let notices = Arc::try_clone(&watching.notices)?;
+    let places = Arc::try_clone(&watching.places)?;
     match console {
         Some(console) => attend_with_console::<B, R, K>(rt, console, watching, subs, keeper),
         None => {
             let watch = watching.watch(alloc, NoConsole::<B>::default())?;
             let attending = Attending::new(keeper, watch);
-            Ok(serve_attended(rt, alloc, subs, limits, notices, attending))
+            Ok(serve_attended(rt, alloc, subs, limits, places, attending))
         }
     }
 }
@@ -385,12 +403,12 @@ fn attend_with_console<
 {
     let alloc = rt.alloc();
     let limits = watching.limits;
-    let notices = Arc::try_clone(&watching.notices)?;
+    let places = Arc::try_clone(&watching.places)?;
     let board = Arc::new(alloc, StatusBoard::<B>::new()).map_err(|_| TaskFailure::Memory)?;
     let feed = watching.feed(alloc, &subs, &board)?;
     let watch = watching.watch(alloc, feed)?;
     let attending = Attending::new(keeper, watch);
-    serve_beside(rt, console, &board, subs, limits, notices, attending)
+    serve_beside(rt, console, &board, subs, limits, places, attending)
 }
 
 /// Serves the lines, and the console on a thread of its own beside them.
@@ -411,7 +429,7 @@ fn serve_beside<
     board: &StatusBoard<B>,
     subs: Subs,
     limits: Limits,
-    notices: Arc<Notices>,
+    places: Arc<LinePlaces>,
     attending: Attending<K, W>,
 ) -> Result<ServeEnd<K>, Failure>
     requires names { K.named_by attending.keeper ≡ subs }
@@ -433,7 +451,7 @@ fn serve_beside<
             let Some(running) = begin_console(rt, scope, console, board, ends) else {
                 return Err(Failure::from(TaskFailure::Memory));
             };
-            let end = serve_attended(rt, rt.alloc(), subs, limits, notices, attending);
+            let end = serve_attended(rt, rt.alloc(), subs, limits, places, attending);
             is_over.store(true, SeqCst);
             running.join(rt);
             Ok(end)

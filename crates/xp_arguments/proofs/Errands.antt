@@ -31,13 +31,19 @@ none_is None P none p = p
 none_is (Some x) P none p = absurd (cc)
 
 -- the limits of the texts that the arguments have
-module _ (rows : List Row) (records turns : Option (List ℕ)) (records_are : records ≡ first_of (codes "records") rows) (turns_are : turns ≡ first_of (codes "turns") rows) where
-  pub has_limits : (limits : Limits) → AreLimits records turns limits → HasLimits rows limits
-  has_limits limits are = subst (λ text. AreLimits text (first_of (codes "turns") rows) limits) records_are (subst (λ text. AreLimits records text limits) turns_are are)
+module _ (rows : List Row) (records turns threads : Option (List ℕ)) (records_are : records ≡ first_of (codes "records") rows)
+    (turns_are : turns ≡ first_of (codes "turns") rows) (threads_are : threads ≡ first_of (codes "threads") rows) where
+  pub has_limits : (limits : Limits) → AreLimits records turns threads limits → HasLimits rows limits
+  has_limits limits are =
+      subst (λ text. AreLimits text (first_of (codes "turns") rows) (first_of (codes "threads") rows) limits) records_are
+      (subst (λ text. AreLimits records text (first_of (codes "threads") rows) limits) turns_are
+      (subst (λ text. AreLimits records turns text limits) threads_are are))
 
-  pub are_limits : (limits : Limits) → HasLimits rows limits → AreLimits records turns limits
+  pub are_limits : (limits : Limits) → HasLimits rows limits → AreLimits records turns threads limits
   are_limits limits has =
-      subst (λ text. AreLimits text turns limits) (sym records_are) (subst (λ text. AreLimits (first_of (codes "records") rows) text limits) (sym turns_are) has)
+      subst (λ text. AreLimits text turns threads limits) (sym records_are)
+      (subst (λ text. AreLimits (first_of (codes "records") rows) text threads limits) (sym turns_are)
+      (subst (λ text. AreLimits (first_of (codes "records") rows) (first_of (codes "turns") rows) text limits) (sym threads_are) has))
 
 -- without limits nothing is ordered
 pub no_order : (rows : List Row) → ((limits : Limits) → HasLimits rows limits → ⊥) → (order : ServeOrder) → IsOrder rows order → ⊥

@@ -102,9 +102,9 @@ keeping =
 abbrev pub recording : App
 recording = with_rule (with_rule keeping (valued (codes "name"))) (valued (codes "records"))
 
--- with those that tell of a trace
+-- with those that tell of a trace, and of threads
 abbrev pub tracing : App
-tracing = with_rule (with_rule recording (valued (codes "trace"))) (valued (codes "trace-lines"))
+tracing = with_rule (with_rule (with_rule recording (valued (codes "trace"))) (valued (codes "trace-lines"))) (valued (codes "threads"))
 
 -- the command that asks for the lines to be served
 abbrev pub serve : App
@@ -199,9 +199,9 @@ pub record IsQuestion (rows : List Row) (question : QuestionOrder) : Type 0 wher
   pub busy : option_map (λ text. text.now) question.busy ≡ first_of (codes "busy") rows
   pub status : question.status ≡ has_flag (codes "status") rows
 
--- the arguments say when serving ends
+-- the arguments say when serving ends, and by how many threads lines are served
 abbrev pub HasLimits : List Row → Limits → Type 0
-HasLimits rows limits = AreLimits (first_of (codes "records") rows) (first_of (codes "turns") rows) limits
+HasLimits rows limits = AreLimits (first_of (codes "records") rows) (first_of (codes "turns") rows) (first_of (codes "threads") rows) limits
 
 -- the name of the file to which call detail records go, and that of the directory: at most one of them is there
 abbrev pub file_of : Option DetailsOrder → Option Text

@@ -9,8 +9,8 @@ ghost use Rattle.xp_arguments.specs.Commands.{AreRight, Ask, AsksFor, asking as 
 use crate::misfits::misfit;
 use crate::names::{
     AFTER, BUSY, CALLER, CDR, CDR_DIR, CONSOLE, DIALLED, FACILITIES, LADDER, LIVE, NAME, NO_LIVE,
-    PCAP, PORTS, QUIET, RECORDS, SERVE, STATUS, TABLES, TRACE, TRACE_LINES, TURNS, UNTIL_EOF, UP,
-    USER, WORDS,
+    PCAP, PORTS, QUIET, RECORDS, SERVE, STATUS, TABLES, THREADS, TRACE, TRACE_LINES, TURNS,
+    UNTIL_EOF, UP, USER, WORDS,
 };
 use crate::subcommand::{Subcommand, Verb};
 use crate::texts;
@@ -254,14 +254,15 @@ fn serve_command<'a>(alloc: Global) -> Result<Command<'a>, AllocError>
         .arg(flag(alloc, UNTIL_EOF, texts::UNTIL_EOF_HELP))
 }
 
-/// The same with the arguments that tell of records and of a trace alone.
+/// The same with the arguments that tell of records, of a trace and of threads alone.
 fn tracing_command<'a>(alloc: Global) -> Result<Command<'a>, AllocError>
     ensures shape { IfOk result (λ command. app_of command ≡ tracing) }
     ensures local { IfOk result (λ command. (fields_of command).has_globals ≡ false) }
 {
     recording_command(alloc)?
         .arg(valued(alloc, TRACE, "PATH", texts::TRACE_HELP))?
-        .arg(valued(alloc, TRACE_LINES, "LINES", texts::TRACE_LINES_HELP))
+        .arg(valued(alloc, TRACE_LINES, "LINES", texts::TRACE_LINES_HELP))?
+        .arg(valued(alloc, THREADS, "N", texts::THREADS_HELP))
 }
 
 /// The same with the arguments that tell of records alone.

@@ -1,8 +1,8 @@
 //! What is wrong with arguments that ask for nothing, in words for a person. No contract says what is told.
 
 use crate::names::{
-    CDR, CDR_DIR, LADDER, LIVE, NAME, NO_LIVE, PCAP, RECORDS, TABLES, TRACE, TRACE_LINES, TURNS,
-    WORDS, is_true,
+    CDR, CDR_DIR, LADDER, LIVE, NAME, NO_LIVE, PCAP, RECORDS, TABLES, THREADS, TRACE, TRACE_LINES,
+    TURNS, WORDS, is_true,
 };
 use crate::replay_order::{NamedPath, named_path};
 use clap::ArgMatches;
@@ -19,6 +19,11 @@ pub(crate) fn misfit(alloc: Global, matches: &ArgMatches<'_>) -> Result<String, 
     if let Some((name, text)) = faulty_number(matches) {
         return format!(in alloc;
             "--{name}: a number from 1 to 1000000000000 is wanted, found {text:?}"
+        );
+    }
+    if let Some(text) = faulty_threads(matches) {
+        return format!(in alloc;
+            "--threads: lines or a number from 1 to 4096 is wanted, found {text:?}"
         );
     }
     if let Some(text) = faulty_name(matches) {
@@ -64,6 +69,15 @@ fn faulty_name<'a>(matches: &ArgMatches<'a>) -> Option<&'a str> {
     (!ExchangeName::is_name(text)).then_some(text)
 }
 
+/// What is asked for as threads, where it is neither `lines` nor a number that may be asked for.
+fn faulty_threads<'a>(matches: &ArgMatches<'a>) -> Option<&'a str> {
+    let text = matches.get_str(THREADS)?;
+    match Limits::read(None, None, Some(text)) {
+        Some(_) => None,
+        None => Some(text),
+    }
+}
+
 /// The first of the two numbers that may not be asked for, with its argument.
 fn faulty_number<'a>(matches: &ArgMatches<'a>) -> Option<(&'static str, &'a str)> {
     match faulty_text(matches, RECORDS) {
@@ -75,7 +89,7 @@ fn faulty_number<'a>(matches: &ArgMatches<'a>) -> Option<(&'static str, &'a str)
 /// The text of this argument, where it is no number that may be asked for.
 fn faulty_text<'a>(matches: &ArgMatches<'a>, name: &str) -> Option<&'a str> {
     let text = matches.get_str(name)?;
-    match Limits::read(Some(text), None) {
+    match Limits::read(Some(text), None, None) {
         Some(_) => None,
         None => Some(text),
     }

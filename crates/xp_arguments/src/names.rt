@@ -87,6 +87,9 @@ pub const RECORDS: &str = "records";
 /// The argument for the number of turns after which a line ends.
 pub const TURNS: &str = "turns";
 
+/// The argument for the number of threads that serve the lines.
+pub const THREADS: &str = "threads";
+
 /// The argument by which serving ends cleanly as standard input ends.
 pub const UNTIL_EOF: &str = "until-eof";
 

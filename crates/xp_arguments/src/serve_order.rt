@@ -6,7 +6,7 @@ ghost use Rattle.xp_arguments.specs.Commands.{HasLimits, HasLive, HasName, HasTr
 
 use crate::details_order::{DetailsOrder, details_of};
 use crate::names::{
-    CDR, CDR_DIR, CONSOLE, LIVE, NAME, NO_LIVE, QUIET, RECORDS, TRACE, TRACE_LINES, TURNS,
+    CDR, CDR_DIR, CONSOLE, LIVE, NAME, NO_LIVE, QUIET, RECORDS, THREADS, TRACE, TRACE_LINES, TURNS,
     UNTIL_EOF, is_true,
 };
 use clap::ArgMatches;
@@ -154,10 +154,13 @@ fn trace_into<'a>(path: Option<&'a str>, lines: Option<&'a str>) -> Option<Optio
     }
 }
 
-/// The limits that the arguments set to serving.
+/// The limits that the arguments set to serving, with its threads.
 fn limits_of(matches: &ArgMatches) -> Option<Limits>
     ensures found { IfSome result (λ limits. HasLimits (rows_of (found_of matches.now)) limits) }
     ensures none { IfNone result ((limits : Limits) → HasLimits (rows_of (found_of matches.now)) limits → ⊥) }
 {
-    Limits::read(matches.get_str(RECORDS), matches.get_str(TURNS))
+    let records = matches.get_str(RECORDS);
+    let turns = matches.get_str(TURNS);
+    let threads = matches.get_str(THREADS);
+    Limits::read(records, turns, threads)
 }

@@ -138,6 +138,9 @@ pub(crate) const TRACE_HELP: &str = "Writes what passes on the lines into this f
 
 pub(crate) const TRACE_LINES_HELP: &str = "Traces these lines alone, as a1,b1; needs --trace";
 
+pub(crate) const THREADS_HELP: &str =
+    "Serves the lines by so many threads, 1 to 4096, or by one for each line: lines";
+
 pub(crate) const RECORDS_HELP: &str =
     "For tests: ends with so many charging records, 1 to 1000000000000";
 

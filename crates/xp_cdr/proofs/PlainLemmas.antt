@@ -1,6 +1,6 @@
 -- No field of a call detail record has an octet that calls for quotes.
-use Rattle.std.proofs.Common.{◌≡◌, ℕ, zero, suc, ◌+◌, ◌/◌, ◌%◌, ◌≤◌, ◌<◌, Bool, true, false, cond, nat_eq, nat_le, List, [], ◌∷◌, ◌++◌, Option, None, Some, IfSome, ap, append-nil, arith, decimal, get_or, option_map, refl, ◌∙◌, ◌||◌}
-use Rattle.std.proofs.lemmas.Bool.{and_parts, or_parts}
+use Rattle.std.proofs.Common.{◌≡◌, ℕ, zero, suc, ◌+◌, ◌/◌, ◌%◌, ◌≤◌, ◌<◌, Bool, true, false, cond, nat_eq, nat_le, List, [], ◌∷◌, ◌++◌, Option, None, Some, IfSome, ap, append-nil, arith, decimal, get_or, inl, inr, option_map, refl, subst, sym, ◌∙◌, ◌||◌}
+use Rattle.std.proofs.lemmas.Bool.{and_parts, cases_Bool, or_parts}
 use Rattle.std.proofs.lemmas.Bool.Decides.{nat_tests}
 use Rattle.std.specs.Fmt.{digit_glyph, digits, digits_onto}
 use Rattle.std.specs.List.{join_with_byte, list_all, list_any}
@@ -13,7 +13,8 @@ use Rattle.xp_packets.specs.declared.end.End.{End}
 use Rattle.xp_packets.specs.declared.end.End.TheVariants.{Caller, Called}
 use Rattle.xp_file.specs.Name.{is_line_letter}
 use Rattle.xp_subs.specs.Sound.{IsSound}
-use Rattle.xp_subs.specs.Tables.{Tables, address_of, line_count}
+use Rattle.xp_subs.specs.Tables.{Tables, address_of, is_spare, line_at, line_count}
+use Rattle.xp_subs.specs.declared.line.Line.{Line}
 use Rattle.xp_charge.specs.declared.record.Record.{Record}
 use Rattle.xp_charge.specs.Duration.{seconds_of}
 use Rattle.xp_charge.specs.Lines.{HasLines}
@@ -118,9 +119,16 @@ plain_letters : (name : List ℕ) → list_all is_line_letter name ≡ true → 
 plain_letters [] all = plain_none
 plain_letters (octet ∷ name) all = plain_cons octet name (letter_high octet ((and_parts _ _ all).0)) (plain_letters name ((and_parts _ _ all).1))
 
+-- a place without a line has none
+plain_name : (tables : Tables) (line : ℕ) → IsSound tables → line < line_count tables → IsPlain (name_of tables line)
+plain_name tables line sound there =
+    elim (cases_Bool (is_spare (line_at tables line))) [
+      | inl spare ↦ subst IsPlain (sym (ap (λ (l : Line). l.name) (sound.spare line spare))) plain_none
+      | inr has_line ↦ plain_letters (name_of tables line) (and_parts _ _ (sound.spelled line (there, has_line))).1
+    ]
+
 plain_line : (tables : Tables) (line : ℕ) → IsSound tables → line < line_count tables → ArePlain (line_fields (named_line tables line))
-plain_line tables line sound there =
-    (plain_letters (name_of tables line) (and_parts _ _ (sound.spelled line there)).1, (plain_digits (address_of tables line), tt))
+plain_line tables line sound there = (plain_name tables line sound there, (plain_digits (address_of tables line), tt))
 
 plain_called : (tables : Tables) (called : Option ℕ) → IsSound tables → IfSome called (λ line. line < line_count tables) → ArePlain (called_fields (option_map (named_line tables) called))
 plain_called tables None sound there = (plain_none, (plain_none, tt))

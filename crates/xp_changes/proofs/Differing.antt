@@ -1,36 +1,41 @@
 -- Where a stop is needed, and where not.
-use Rattle.std.proofs.Common.{◌≡◌, ◌<◌, ◌↔◌, ℕ, true, false, refl}
-use Rattle.xp_changes.specs.Stops.{IsKept, MayFollow, NeedsStop}
-use Rattle.xp_changes.specs.declared.stops.StopNeeded.{StopNeeded}
-use Rattle.xp_changes.specs.declared.stops.StopNeeded.TheVariants as needs
-use Rattle.xp_reload.specs.Frame.{Differs, IsSameFrame}
+use Rattle.std.proofs.Common.{◌≡◌, ◌∙◌, ◌↔◌, true, false, refl, sym}
+use Rattle.xp_changes.specs.Following.{MayFollow}
+use Rattle.xp_changes.proofs.Laying.{refuted, settings_of}
+use Rattle.xp_reload.specs.Frame.{Differs, HasSameSettings, IsSameFrame}
 use Rattle.xp_reload.specs.declared.frame.FrameChange.{FrameChange}
 use Rattle.xp_reload.specs.declared.frame.FrameChange.TheVariants as changes
-use Rattle.xp_subs.specs.Tables.{Tables, line_count}
+use Rattle.xp_subs.specs.Laid.{CannotBeLaid, IsLaidOver}
+use Rattle.xp_subs.specs.Sound.{IsSound}
+use Rattle.xp_subs.specs.Tables.{Tables}
+use Rattle.xp_subs.specs.declared.laid.LayFault.{LayFault}
 
-not_same : (old new : Tables) (change : FrameChange) → Differs old new change → IsSameFrame old new → ⊥
-not_same old new changes.LineCount differs same = differs same.count
-not_same old new (changes.Line line) differs same = differs.1 (same.lines line differs.0)
-not_same old new changes.SegmentLimit differs same = differs same.settings.segment_limit
-not_same old new changes.Journal differs same = differs same.settings.journal
-not_same old new changes.Host differs same = differs same.settings.host
-not_same old new changes.XotPort differs same = differs same.settings.xot_port
-not_same old new changes.Name differs same = differs same.settings.name
+-- lines that have no places
+pub by_fault : (old new : Tables) (fault : LayFault) → IsSound new → CannotBeLaid old new fault → (true ≡ false) ↔ MayFollow old new
+by_fault old new fault sound cannot = (λ e. absurd (cc), λ may. absurd (refuted old new may.laid fault sound cannot may.over))
 
-not_kept : (old new : Tables) (needed : StopNeeded) → NeedsStop old new needed → ((line : ℕ) → line < line_count old → line < line_count new → IsKept old new line) → ⊥
-not_kept old new (needs.Sources line) is kept = is.1 (kept line is.0.0 is.0.1).sources
-not_kept old new (needs.CallerAddress line) is kept = is.2 ((kept line is.0.0 is.0.1).address is.1)
-not_kept old new (needs.DefaultCaller line) is kept = is.2 ((kept line is.0.0 is.0.1).default_caller is.1)
+not_same : (old new laid : Tables) (change : FrameChange) → IsLaidOver old new laid → Differs old laid change → HasSameSettings old new → ⊥
+not_same old new laid changes.LineCount over differs same = differs over.count
+not_same old new laid (changes.Modulus line) over differs same = differs.1 (over.moduli line differs.0)
+not_same old new laid changes.SegmentLimit over differs same = differs (sym (settings_of old new laid over).segment_limit ∙ same.segment_limit)
+not_same old new laid changes.Journal over differs same = differs (sym (settings_of old new laid over).journal ∙ same.journal)
+not_same old new laid changes.Host over differs same = differs (sym (settings_of old new laid over).host ∙ same.host)
+not_same old new laid changes.XotPort over differs same = differs (sym (settings_of old new laid over).xot_port ∙ same.xot_port)
+not_same old new laid changes.Name over differs same = differs (sym (settings_of old new laid over).name ∙ same.name)
 
 -- another frame
-pub by_frame : (old new : Tables) (change : FrameChange) → Differs old new change → (true ≡ false) ↔ MayFollow old new
-by_frame old new change differs = (λ e. absurd (cc), λ may. absurd (not_same old new change differs may.frame))
-
--- something that is kept as it was
-pub by_need : (old new : Tables) (needed : StopNeeded) → NeedsStop old new needed → (true ≡ false) ↔ MayFollow old new
-by_need old new needed is = (λ e. absurd (cc), λ may. absurd (not_kept old new needed is may.kept))
+pub by_frame : (old new laid : Tables) (change : FrameChange) → IsLaidOver old new laid → Differs old laid change → (true ≡ false) ↔ MayFollow old new
+by_frame old new laid change over differs = (λ e. absurd (cc), λ may. absurd (not_same old new laid change over differs may.settings))
 
 -- nothing
-pub by_none : (old new : Tables) → IsSameFrame old new → ((line : ℕ) → line < line_count old → line < line_count new → IsKept old new line)
-    → (false ≡ false) ↔ MayFollow old new
-by_none old new frame kept = (λ e. record { frame = frame; kept = kept }, λ may. refl)
+pub by_none : (old new laid : Tables) → IsLaidOver old new laid → IsSameFrame old laid → (false ≡ false) ↔ MayFollow old new
+by_none old new laid over frame =
+    let are = settings_of old new laid over in
+    let settings : HasSameSettings old new = record {
+      segment_limit = are.segment_limit ∙ frame.settings.segment_limit;
+      journal = are.journal ∙ frame.settings.journal;
+      host = are.host ∙ frame.settings.host;
+      xot_port = are.xot_port ∙ frame.settings.xot_port;
+      name = are.name ∙ frame.settings.name;
+    } in
+    (λ e. record { laid = laid; over = over; settings = settings }, λ may. refl)

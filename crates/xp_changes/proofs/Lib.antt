@@ -1,4 +1,5 @@
 pub mod Differing
-pub mod Kept
+mod Laying
 mod LineLemmas
 mod Listed
+mod Pigeons

@@ -1,46 +1,45 @@
--- The list of the stations that change, as it grows.
-use Rattle.std.proofs.Common.{◌≡◌, ◌<◌, ◌+◌, ℕ, List, [], ◌∷◌, ◌++◌, inl, inr, Contains, subst, arith}
+-- A list of numbers that leaves none out, as it grows.
+use Rattle.std.proofs.Common.{◌≡◌, ◌<◌, ◌+◌, ℕ, List, [], ◌∷◌, ◌++◌, inl, inr, Contains, subst, sym, arith}
 use Rattle.std.proofs.lemmas.Bool.{cases_lt}
 use Rattle.std.proofs.lemmas.List.Elements.{All-get_or, All-nil, All-push, All-weaker, Contains-append_left, Contains-push}
 use Rattle.std.proofs.lemmas.List.Quantifiers.{all_pairs_push}
-use Rattle.xp_subs.specs.Tables.{Tables}
-use Rattle.xp_changes.specs.Stations.{AreChanged, IsUnchanged}
+use Rattle.xp_changes.specs.Numbers.{AreAllOf}
 
-pub none_yet : (old new : Tables) → AreChanged old new 0 []
-none_yet old new = record {
+pub none_yet : (holds : ℕ → Type 0) → AreAllOf holds 0 []
+none_yet holds = record {
   within = All-nil _;
-  changed = All-nil _;
-  all = λ station within changed. absurd (omega (arith, within));
+  hold = All-nil _;
+  all = λ number within held. absurd (omega (arith, within));
   ascending = λ i j d before within. absurd (omega (arith, within));
 }
 
-module _ (old new : Tables) (count : ℕ) (stations : List ℕ) (are : AreChanged old new count stations) where
-  -- the next station changes too
-  pub one_more : (IsUnchanged old new count → ⊥) → AreChanged old new (count + 1) (stations ++ count ∷ [])
-  one_more changes = record {
-    within = All-push (λ station. station < count + 1) stations count (All-weaker (λ station. station < count) (λ station. station < count + 1) (λ station below. omega arith) stations are.within) (omega arith);
-    changed = All-push (λ station. IsUnchanged old new station → ⊥) stations count are.changed changes;
-    all = λ station within changed. elim (cases_lt station count) [
-      | inl below ↦ Contains-append_left stations (count ∷ []) station (are.all station below changed)
+module _ (holds : ℕ → Type 0) (count : ℕ) (numbers : List ℕ) (are : AreAllOf holds count numbers) where
+  -- it holds of the next number too
+  pub one_more : holds count → AreAllOf holds (count + 1) (numbers ++ count ∷ [])
+  one_more held = record {
+    within = All-push (λ number. number < count + 1) numbers count (All-weaker (λ number. number < count) (λ number. number < count + 1) (λ number below. omega arith) numbers are.within) (omega arith);
+    hold = All-push holds numbers count are.hold held;
+    all = λ number within held. elim (cases_lt number count) [
+      | inl below ↦ Contains-append_left numbers (count ∷ []) number (are.all number below held)
       | inr past ↦
-          let same : count ≡ station = omega (arith, past, within) in
-          subst (λ station. Contains (stations ++ count ∷ []) station) same (Contains-push stations count)
+          let same : count ≡ number = omega (arith, past, within) in
+          subst (λ number. Contains (numbers ++ count ∷ []) number) same (Contains-push numbers count)
     ];
     ascending =
-        all_pairs_push (λ one other. one < other) stations count are.ascending
-        (λ k d within. All-get_or (λ station. station < count) stations k d within are.within);
+        all_pairs_push (λ one other. one < other) numbers count are.ascending
+        (λ k d within. All-get_or (λ number. number < count) numbers k d within are.within);
   }
 
-  -- the next one stays as it was
-  pub none_more : IsUnchanged old new count → AreChanged old new (count + 1) stations
-  none_more same = record {
-    within = All-weaker (λ station. station < count) (λ station. station < count + 1) (λ station below. omega arith) stations are.within;
-    changed = are.changed;
-    all = λ station within changed. elim (cases_lt station count) [
-      | inl below ↦ are.all station below changed
+  -- it does not
+  pub none_more : (holds count → ⊥) → AreAllOf holds (count + 1) numbers
+  none_more not = record {
+    within = All-weaker (λ number. number < count) (λ number. number < count + 1) (λ number below. omega arith) numbers are.within;
+    hold = are.hold;
+    all = λ number within held. elim (cases_lt number count) [
+      | inl below ↦ are.all number below held
       | inr past ↦
-          let is : count ≡ station = omega (arith, past, within) in
-          absurd (changed (subst (IsUnchanged old new) is same))
+          let is : count ≡ number = omega (arith, past, within) in
+          absurd (not (subst holds (sym is) held))
     ];
     ascending = are.ascending;
   }

@@ -1,6 +1,7 @@
 -- The stations that change as other subscriptions take the place of the old ones.
-use Rattle.std.specs.Prelude.{◌≡◌, ◌<◌, ℕ, List, Option, None, Some, All, Contains, false, length, if◌then◌else◌, nat_eq, option_map, slice_get, slice_index_or}
-use Rattle.std.specs.List.{AllPairs}
+use Rattle.std.specs.Prelude.{◌≡◌, ◌<◌, ℕ, List, [], ◌∷◌, Option, None, Some, false, length, option_map, slice_get, slice_index_or}
+use Rattle.std.specs.Option.{option_or}
+use Rattle.xp_changes.specs.Numbers.{AreAllOf}
 use Rattle.xp_file.specs.declared.entry.Facilities.{Facilities}
 use Rattle.xp_file.specs.declared.entry.Redirection.{Redirection}
 use Rattle.xp_subs.specs.Tables.{Tables, line_at, line_named_of, station_at, station_of}
@@ -30,9 +31,11 @@ pub record HasSameGroups (old new : Tables) (before after : Station) : Type 0 wh
   pub count : length after.memberships.items ≡ length before.memberships.items
   pub each : (place : ℕ) → place < length before.memberships.items → IsSameMembership old new (group_in before place) (group_in after place)
 
--- a line of the same name, with the same address of its own or none, and with the same addresses from which it may connect
+-- a line of the same name, with the same port or router, the same address of its own or none, and the same addresses from which it may
+-- connect
 pub record IsSameLine (old new : Tables) (before after : ℕ) : Type 0 where
   pub name : (line_at new after).name ≡ (line_at old before).name
+  pub access : (line_at new after).access ≡ (line_at old before).access
   pub address : (line_at new after).address ≡ (line_at old before).address
   pub sources : (line_at new after).from ≡ (line_at old before).from
 
@@ -79,11 +82,14 @@ pub record IsSameStation (old new : Tables) (before after : Station) : Type 0 wh
   pub groups : HasSameGroups old new before after
   pub lines : HasSameLines old new before after
 
--- the old station of a station: the one that has a line with the name of its first line
+-- the old line with the name of the first of these lines that has one
+abbrev pub line_before : Tables → Tables → List ℕ → Option ℕ
+line_before old new [] = None
+line_before old new (line ∷ lines) = option_or (line_named_of old (line_at new line).name) (line_before old new lines)
+
+-- the old station of a station: the one that has the old line with the name of the first of its lines that has one
 abbrev pub station_before : Tables → Tables → ℕ → Option ℕ
-station_before old new station =
-    if nat_eq (length (station_at new station).lines.items) 0 then None
-    else option_map (station_of old) (line_named_of old (line_at new (line_in (station_at new station) 0)).name)
+station_before old new station = option_map (station_of old) (line_before old new (station_at new station).lines.items)
 
 -- the station was there before, and stays as it was
 pub record IsUnchanged (old new : Tables) (station : ℕ) : Type 0 where
@@ -91,9 +97,6 @@ pub record IsUnchanged (old new : Tables) (station : ℕ) : Type 0 where
   pub found : station_before old new station ≡ Some before
   pub same : IsSameStation old new (station_at old before) (station_at new station)
 
--- the stations that do not, in ascending order
-pub record AreChanged (old new : Tables) (count : ℕ) (stations : List ℕ) : Type 0 where
-  pub within : All (λ station. station < count) stations
-  pub changed : All (λ station. IsUnchanged old new station → ⊥) stations
-  pub all : (station : ℕ) → station < count → (IsUnchanged old new station → ⊥) → Contains stations station
-  pub ascending : AllPairs (λ one other. one < other) stations
+-- those of the first stations, as many as `count` says, that do not, in ascending order
+abbrev pub AreChanged : Tables → Tables → ℕ → List ℕ → Type 0
+AreChanged old new count stations = AreAllOf (λ station. IsUnchanged old new station → ⊥) count stations

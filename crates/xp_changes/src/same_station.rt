@@ -2,7 +2,7 @@
 
 ghost use Rattle.std.specs.Prelude.{◌≡◌, ◌<◌, ◌↔◌, length, true};
 ghost use Rattle.xp_changes.specs.Stations.{AcceptsSame, AreSameRedirections, HasSameBars, HasSameGroups, HasSameLines, HasSameValues, IsSameLine, IsSameMembership, IsSameRedirection, IsSameStation, line_in};
-ghost use Rattle.xp_subs.specs.Tables.{line_count, station_at, station_count};
+ghost use Rattle.xp_subs.specs.Tables.{IsThere, station_at, station_count};
 
 use xp_subs::{Facilities, LineNo, Membership, Redirection, Sources, Station, StationNo, Subs};
 
@@ -127,22 +127,25 @@ pub(crate) fn line_in(subs: &Subs, station: StationNo, place: usize) -> LineNo
     requires station { station < station_count subs.now }
     requires place { place < length (station_at subs.now station).lines.items }
     ensures line { result ≡ line_in (station_at subs.now station) place }
-    ensures of_file { result < line_count subs.now }
+    ensures there { IsThere subs.now result }
 {
     // The contract of this call says that the lines of stations are lines of the exchange.
     let _ = subs.counts();
     subs.station(station).lines.as_slice()[place]
 }
 
-/// Whether the name of a line, its own address and the addresses from which it may connect are the same.
+/// Whether the name of a line, its port or router, its own address and the addresses from which it may connect are the same.
 fn is_same_line(old: &Subs, before: LineNo, new: &Subs, after: LineNo) -> bool
-    requires before { before < line_count old.now }
-    requires after { after < line_count new.now }
+    requires before { IsThere old.now before }
+    requires after { IsThere new.now after }
     ensures { result ≡ true ↔ IsSameLine old.now new.now before after }
 {
     let was = old.line(before);
     let is = new.line(after);
-    is.name == was.name && is.address == was.address && are_same_sources(&was.from, &is.from)
+    is.name == was.name
+        && is.access == was.access
+        && is.address == was.address
+        && are_same_sources(&was.from, &is.from)
 }
 
 /// Whether connections may come from the same addresses.

@@ -1,11 +1,12 @@
 //! What changes of stations, and what that does to calls, in words. No contract says what is told.
 
 ghost use Rattle.std.specs.Prelude.{◌<◌};
-ghost use Rattle.xp_subs.specs.Tables.{line_count, station_count};
+ghost use Rattle.xp_subs.specs.Tables.{IsThere, station_count};
 
-use crate::listing::{ChangedStations, station_before};
+use crate::line_text::push_access;
+use crate::listing::{ChangedSubs, station_before};
 use crate::same_station::{are_same_redirections, are_same_sources, has_same_groups, line_in};
-use std::alloc::{AllocError, Global};
+use std::alloc::AllocError;
 use std::fmt::Write;
 use xp_packets::Digits;
 use xp_subs::{Access, Facilities, Line, LineNo, Station, StationNo, Subs};
@@ -13,24 +14,22 @@ use xp_subs::{Access, Facilities, Line, LineNo, Station, StationNo, Subs};
 /// What is told of a change that decides calls from the next one on.
 const FROM_NEXT_CALL: &str = "from the next call request on";
 
-/// What changes of each of these stations, a line for each thing. A station is named by its first line.
-///
-/// # Errors
-///
-/// An allocation failed.
-pub fn changes_text(
-    alloc: Global,
+/// What is told of a change that decides connections from the next one on.
+const FROM_NEXT_CONNECTION: &str = "from the next connection on";
+
+/// What changes of each station that changes, a line for each thing. A station is named by its first line.
+pub(crate) fn push_stations(
+    text: &mut String,
     old: &Subs,
     new: &Subs,
-    changes: &ChangedStations,
-) -> Result<String, AllocError> {
-    let mut text = String::new(alloc);
+    changes: &ChangedSubs,
+) -> Result<(), AllocError> {
     for station in changes.stations.as_slice() {
         if usize::from(*station) < new.counts().stations {
-            push_station(&mut text, old, new, *station)?;
+            push_station(text, old, new, *station)?;
         }
     }
-    Ok(text)
+    Ok(())
 }
 
 fn push_station(
@@ -47,7 +46,7 @@ fn push_station(
         return writeln!(text, "{name}: station {} is new", is.address);
     };
     let was = old.station(before);
-    push_address(text, new, station, was)?;
+    push_address(text, old, new, station, was)?;
     push_rights(text, name, &was.facilities, &is.facilities)?;
     push_default_caller(text, new, station, was)?;
     push_redirection(text, name, was, is)?;
@@ -58,7 +57,7 @@ fn push_station(
         )?;
     }
     push_hunt_group(text, old, before, new, station)?;
-    push_lines(text, old, before, new, station)
+    push_lines_of(text, old, before, new, station)
 }
 
 /// The name of its first line.
@@ -86,6 +85,7 @@ fn has_router(subs: &Subs, station: StationNo) -> bool
 
 fn push_address(
     text: &mut String,
+    old: &Subs,
     new: &Subs,
     station: StationNo,
     was: &Station,
@@ -102,12 +102,31 @@ fn push_address(
         "{name}: address {} becomes {}",
         was.address, is.address
     )?;
-    if has_router(new, station) {
-        writeln!(text, " (needs a stop)")
-    } else if is.lines.len() > 1 {
-        writeln!(text, " (refused while one of its lines is in a call)")
-    } else {
-        writeln!(text, " (refused while line {name} is in a call)")
+    match staying_lines(old, new, station) {
+        0 => writeln!(text, ""),
+        1 if is.lines.len() == 1 => writeln!(text, " (refused while line {name} is in a call)"),
+        _ => writeln!(text, " (refused while one of its lines is in a call)"),
+    }
+}
+
+/// How many lines of a station were there before, at the same port or router. The others are in no call as their address changes.
+fn staying_lines(old: &Subs, new: &Subs, station: StationNo) -> usize
+    requires { station < station_count new.now }
+{
+    let mut count: usize = 0;
+    for place in 0..new.station(station).lines.len() {
+        if stays(old, new.line(line_in(new, station, place))) {
+            count = count.saturating_add(1);
+        }
+    }
+    count
+}
+
+/// Whether a line was there before, at the same port or router.
+fn stays(old: &Subs, line: &Line) -> bool {
+    match old.line_named(line.name.as_str()) {
+        Some(before) => old.line(before).access == line.access,
+        None => false,
     }
 }
 
@@ -153,7 +172,7 @@ fn push_default_caller(
     }
     let name = name_of_station(new, station);
     let effect = if has_router(new, station) {
-        "needs a stop"
+        FROM_NEXT_CALL
     } else {
         "without effect"
     };
@@ -226,8 +245,8 @@ fn has_same_names(old: &Subs, before: StationNo, new: &Subs, station: StationNo)
     true
 }
 
-/// What changes of its lines alone.
-fn push_lines(
+/// What changes of those of its lines that were there before.
+fn push_lines_of(
     text: &mut String,
     old: &Subs,
     before: StationNo,
@@ -242,8 +261,8 @@ fn push_lines(
     Ok(())
 }
 
-/// What changes of a line alone: its address, and the addresses from which it may connect. An address that its station has is told of
-/// that, if it is the line's old station.
+/// What changes of a line alone: its address, the addresses from which it may connect, and its port or its router. An address that its
+/// station has is told of that, if it is the line's old station.
 fn push_line(
     text: &mut String,
     old: &Subs,
@@ -251,35 +270,37 @@ fn push_line(
     new: &Subs,
     line: LineNo,
 ) -> Result<(), AllocError>
-    requires { line < line_count new.now }
+    requires { IsThere new.now line }
 {
     let is = new.line(line);
     let name = is.name.as_str();
     let Some(number) = old.line_named(name) else {
-        return writeln!(text, "{name}: the line is new");
+        return Ok(());
     };
     let was = old.line(number);
     let is_told = is.address.is_none() && was.address.is_none() && was.station == before;
     if !is_told && new.address_of(line) != old.address_of(number) {
-        push_moved(text, is, old.address_of(number), new.address_of(line))?;
+        push_moved(text, was, is, old.address_of(number), new.address_of(line))?;
     }
     if !are_same_sources(&was.from, &is.from) {
-        writeln!(text, "{name}: from changed (needs a stop)")?;
+        writeln!(text, "{name}: from changed ({FROM_NEXT_CONNECTION})")?;
     }
-    Ok(())
+    push_access(text, was, is)
 }
 
-/// The address of a line, which is another one than before.
+/// The address of a line, which is another one than before. A line that gets another port or router is in no call any more.
 fn push_moved(
     text: &mut String,
-    line: &Line,
+    was: &Line,
+    is: &Line,
     before: &Digits,
     after: &Digits,
 ) -> Result<(), AllocError> {
-    let name = line.name.as_str();
+    let name = is.name.as_str();
     write!(text, "{name}: address {before} becomes {after}")?;
-    match &line.access {
-        Access::Router(_) => writeln!(text, " (needs a stop)"),
-        Access::Port(_) => writeln!(text, " (refused while line {name} is in a call)"),
+    if is.access == was.access {
+        writeln!(text, " (refused while line {name} is in a call)")
+    } else {
+        writeln!(text, "")
     }
 }

@@ -1,12 +1,12 @@
 //! All that is told of other subscriptions.
 
-ghost use Rattle.std.specs.Prelude.{◌≡◌, ◌↔◌, IfOk, false};
-ghost use Rattle.xp_changes.specs.Stops.{MayFollow};
+ghost use Rattle.std.specs.Prelude.{◌≡◌, ◌↔◌, IfOk, IsOk, OnOk, false, true};
+ghost use Rattle.xp_changes.specs.Following.{MayFollow};
 
-use crate::framing::frame_text;
+use crate::line_text::push_lines;
 use crate::listing::changes;
-use crate::station_text::changes_text;
-use crate::stops::needs_stop;
+use crate::refusing::{frame_text, lay_text};
+use crate::station_text::push_stations;
 use std::alloc::{AllocError, Global};
 use std::fmt::Write;
 use xp_reload::frame_change;
@@ -21,45 +21,50 @@ pub struct ToldChanges {
     pub needs_stop: bool,
 }
 
-/// What changes as the new subscriptions come into force after the old ones: a line for each thing, the number of stations that change,
-/// and for what a stop is needed. Where the frame is another one only the first thing is told in which it differs.
+/// What changes as the new subscriptions come into force after the old ones, and what that does to calls: a line for each thing, and the
+/// numbers of stations and lines. Where a stop is needed for them, only the first thing is told for which it is.
 ///
 /// # Errors
 ///
 /// An allocation failed.
-#[tactic(auto, using(crate::proofs::Differing::by_frame, crate::proofs::Differing::by_need, crate::proofs::Differing::by_none))]
-pub fn tell_changes(alloc: Global, old: &Subs, new: &Subs) -> Result<ToldChanges, AllocError>
-    ensures { IfOk result (λ told. (told.needs_stop ≡ false) ↔ MayFollow old.now new.now) }
+#[tactic(auto, using(crate::proofs::Differing::by_fault, crate::proofs::Differing::by_frame, crate::proofs::Differing::by_none))]
+pub fn tell_changes(alloc: Global, old: &Subs, new: Subs) -> Result<ToldChanges, AllocError>
+    ensures { IfOk result (λ told. (told.needs_stop ≡ false) ↔ MayFollow old.now new) }
 {
-    if let Some(change) = frame_change(old, new) {
-        let mut text = frame_text(alloc, old, new, change)?;
-        text.push('\n')?;
-        return Ok(ToldChanges {
-            text,
-            needs_stop: true,
-        });
-    }
-    match needs_stop(old, new) {
-        Some(needed) => {
-            let mut text = station_lines(alloc, old, new)?;
-            let reason = needed.text(alloc, old)?;
-            writeln!(text, "{reason}")?;
-            Ok(ToldChanges {
-                text,
-                needs_stop: true,
-            })
-        }
+    // The contract of this call says that the new ones are sound.
+    let _ = new.counts();
+    let laid = match old.laid_over(alloc, new) {
+        Ok(laid) => laid,
+        Err(fault) => return tell_stop(lay_text(alloc, &fault)),
+    };
+    match frame_change(old, &laid) {
+        Some(change) => tell_stop(frame_text(alloc, old, change)),
         None => Ok(ToldChanges {
-            text: station_lines(alloc, old, new)?,
+            text: changed_text(alloc, old, &laid)?,
             needs_stop: false,
         }),
     }
 }
 
-/// What changes of stations, and how many change.
-fn station_lines(alloc: Global, old: &Subs, new: &Subs) -> Result<String, AllocError> {
-    let changes = changes(alloc, old, new)?;
-    let mut text = changes_text(alloc, old, new, &changes)?;
+/// This text, which says for what a stop is needed.
+fn tell_stop(text: Result<String, AllocError>) -> Result<ToldChanges, AllocError>
+    ensures stop { IfOk result (λ told. told.needs_stop ≡ true) }
+    ensures told { OnOk result (IsOk text) }
+{
+    let mut text = text?;
+    text.push('\n')?;
+    Ok(ToldChanges {
+        text,
+        needs_stop: true,
+    })
+}
+
+/// What changes of stations and lines, and how many change, where these subscriptions are laid over the old ones.
+fn changed_text(alloc: Global, old: &Subs, laid: &Subs) -> Result<String, AllocError> {
+    let changes = changes(alloc, old, laid)?;
+    let mut text = String::new(alloc);
+    push_stations(&mut text, old, laid, &changes)?;
+    push_lines(&mut text, old, laid, &changes)?;
     writeln!(text, "{changes}")?;
     Ok(text)
 }

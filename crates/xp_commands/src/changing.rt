@@ -10,23 +10,20 @@ use xp_changes::{ToldChanges, tell_changes};
 use xp_subs::Subs;
 use xp_tasks::TaskFailure;
 
-/// What changes as these subscriptions come into force after those of the file that a word names, if there is a word.
+/// What changes as these subscriptions come into force after those of the file that a word names.
 ///
 /// # Errors
 ///
 /// `Arguments` where the word names standard input; those of [`subscriptions_of`], of which the file is told; and want of memory.
 pub fn changes_after<R: AllocGlobal + Files<File = File>>(
     rt: &R,
-    word: Option<&str>,
-    new: &Subs,
-) -> Result<Option<ToldChanges>, CommandFailure> {
-    let Some(word) = word else {
-        return Ok(None);
-    };
+    word: &str,
+    new: Subs,
+) -> Result<ToldChanges, CommandFailure> {
     let alloc = rt.alloc();
     let name = named_file(alloc, word, "OLD is no standard input")?;
     let old = old_subscriptions(rt, name)?;
-    Ok(Some(tell_changes(alloc, &old, new)?))
+    Ok(tell_changes(alloc, &old, new)?)
 }
 
 /// Prints what changes.

@@ -8,9 +8,10 @@ use std::fs::{File, Files};
 use std::io::{BufReader, ErrorKind, Read, Write};
 use std::{fs, io};
 use xp_arguments::{NamedPath, ReplayForm, ReplayOrder};
+use xp_core::ReloadFault;
 use xp_exchange::ReplayFault;
 use xp_script::NamedTables;
-use xp_script_places::{KeptLines, refused_tables, wanted_at};
+use xp_script_places::{KeptLines, KeptScript, refused_lines, refused_tables, wanted_at};
 use xp_subs::Subs;
 use xp_tasks::{Task, TaskFailure, perform, subscriptions};
 use xp_transcript::{Form, tell};
@@ -148,7 +149,9 @@ fn play_script<R: AllocGlobal + Input + Print>(
         Ok(()) => Ok(()),
         Err(failure) => Err(
             match writer.get_ref().explained(alloc, failure, STANDARD_OUTPUT) {
-                CommandFailure::Task(failure) => with_wanted(alloc, failure, play, lines.octets()),
+                CommandFailure::Task(failure) => {
+                    with_wanted(alloc, failure, play, lines.script())
+                }
                 explained => explained,
             },
         ),
@@ -179,7 +182,9 @@ fn tell_script<R: AllocGlobal + Input, W: Write + Drop>(
             let failure = TaskFailure::Replay(fault);
             Err(
                 match writer.get_ref().explained(alloc, failure, told.name) {
-                    CommandFailure::Task(failure) => with_wanted(alloc, failure, play, &script),
+                    CommandFailure::Task(failure) => {
+                        with_wanted(alloc, failure, play, KeptScript::whole(&script))
+                    }
                     explained => explained,
                 },
             )
@@ -197,27 +202,85 @@ fn whole_script<R: AllocGlobal + Input>(rt: &R) -> Result<Vec<u8>, TaskFailure> 
     }
 }
 
-/// This failure of a replay. Where the script has a faulty line it is the first among these lines, and what was wanted there is told
-/// with it. Where subscriptions that a line names cannot come into force it is told why.
+/// This failure of a replay. Where the script has a faulty line, what was wanted there is told with it. Where subscriptions that a line
+/// names cannot come into force it is told why.
 fn with_wanted(
     alloc: Global,
     failure: TaskFailure,
     play: Play<'_, '_>,
-    lines: &[u8],
+    script: KeptScript<'_>,
 ) -> CommandFailure {
     let TaskFailure::Replay(fault) = failure else {
         return CommandFailure::Task(failure);
     };
-    let Ok(subs) = subscriptions(alloc, play.file) else {
+    let Ok(opening) = subscriptions(alloc, play.file) else {
         return CommandFailure::Task(failure);
     };
     match fault {
-        ReplayFault::Script(_) => with_reason(failure, wanted_at(alloc, &subs, play.named, lines)),
-        ReplayFault::Reload(_, number, why) => match play.named.get(number) {
-            Some(named) => refused(failure, refused_tables(alloc, &subs, named, why)),
-            None => CommandFailure::Task(failure),
-        },
+        ReplayFault::Script(number) => with_reason(
+            failure,
+            wanted_in(alloc, opening, play.named, script, number),
+        ),
+        ReplayFault::Lay(number, tables) => refused(
+            failure,
+            lines_refused_in(alloc, opening, play.named, script, number, tables),
+        ),
+        ReplayFault::Reload(number, tables, why) => refused(
+            failure,
+            match script.force_at(alloc, opening, play.named, number) {
+                Ok(force) => tables_refused(alloc, &force, play.named, tables, why),
+                Err(error) => Err(error),
+            },
+        ),
         _ => CommandFailure::Task(failure),
+    }
+}
+
+/// What was wanted at the line of this number. Empty where it is not kept.
+fn wanted_in(
+    alloc: Global,
+    opening: Subs,
+    named: &[NamedTables<'_>],
+    script: KeptScript<'_>,
+    number: u64,
+) -> Result<String, AllocError> {
+    let Some(line) = script.line(number) else {
+        return Ok(String::new(alloc));
+    };
+    let force = script.force_at(alloc, opening, named, number)?;
+    wanted_at(alloc, &force, named, line)
+}
+
+/// Why the lines of these subscriptions have no places at the line of this number.
+fn lines_refused_in(
+    alloc: Global,
+    opening: Subs,
+    named: &[NamedTables<'_>],
+    script: KeptScript<'_>,
+    number: u64,
+    tables: usize,
+) -> Result<String, AllocError> {
+    let force = script.force_at(alloc, opening, named, number)?;
+    let Some(tables) = named.get(tables) else {
+        return Err(AllocError);
+    };
+    match tables.laid_over(&force) {
+        Ok(_) => Err(AllocError),
+        Err(fault) => refused_lines(alloc, tables.name(), &fault),
+    }
+}
+
+/// Why these subscriptions cannot come into force.
+fn tables_refused(
+    alloc: Global,
+    force: &Subs,
+    named: &[NamedTables<'_>],
+    tables: usize,
+    why: ReloadFault,
+) -> Result<String, AllocError> {
+    match named.get(tables) {
+        Some(tables) => refused_tables(alloc, force, tables, why),
+        None => Err(AllocError),
     }
 }
 

@@ -172,7 +172,7 @@ fn router_of(subs: &Subs, line: LineNo) -> Option<IpAddr>
 {
     match subs.access_of(line) {
         Access::Router(router) => router.address().parse::<IpAddr>().ok(),
-        Access::Port(_) => None,
+        Access::Port(_) | Access::Spare => None,
     }
 }
 

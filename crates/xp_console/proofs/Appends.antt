@@ -24,3 +24,8 @@ six_then (Ok done) old first second third a b c d e f number end pieces counted 
     ∙ ap (λ t. t ++ end) (counted ∙ ap (λ t. t ++ number) (pieces ∙ ap (λ t. old ++ t) (six_pieces a b c d e f)) ∙ append_assoc old (a ++ b ++ c ++ d ++ e ++ f) number)
     ∙ append_assoc old (a ++ b ++ c ++ d ++ e ++ f ++ number) end
 six_then (Err fault) old first second third a b c d e f number end pieces counted ended = tt
+
+-- what was appended where that succeeded
+pub appended : {A E : Type 0} (r : Result A E) (old new end : List ℕ) → new ≡ (if is_ok r then old ++ end else old) → OnOk r (new ≡ old ++ end)
+appended (Ok done) old new end is = is
+appended (Err fault) old new end is = tt

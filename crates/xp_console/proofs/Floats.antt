@@ -28,16 +28,16 @@ party_has_no_float : (party : Option Party) → has_float (optional_party_data p
 party_has_no_float None = refl
 party_has_no_float (Some party) = refl
 
-line_has_no_float : (line : LineStatus) → has_float (line_data line) ≡ false
+pub line_has_no_float : (line : LineStatus) → has_float (line_data line) ≡ false
 line_has_no_float line = rw (optional_has_no_float line.call, peer_has_no_float line.peer, optional_has_no_float line.router_unreachable_since) refl
 
-live_has_no_float : (call : LiveCall) → has_float (live_data call) ≡ false
+pub live_has_no_float : (call : LiveCall) → has_float (live_data call) ≡ false
 live_has_no_float call = rw (optional_has_no_float call.connected) refl
 
-ended_has_no_float : (call : EndedCall) → has_float (ended_data call) ≡ false
+pub ended_has_no_float : (call : EndedCall) → has_float (ended_data call) ≡ false
 ended_has_no_float call = rw (party_has_no_float call.called, optional_has_no_float call.connected) refl
 
-station_has_no_float : (station : StationCalls) → has_float (station_data station) ≡ false
+pub station_has_no_float : (station : StationCalls) → has_float (station_data station) ≡ false
 station_has_no_float station = refl
 
 pub status_has_no_float : (status : ExchangeStatus) → has_float (status_data status) ≡ false

@@ -58,6 +58,11 @@ lines_text lines =
 unfoldable pub single_text : List ℕ → List ℕ → List ℕ → ℕ → List ℕ
 single_text name kind help value = head_text name kind help ++ sample_text name value
 
+-- places that have no line
+unfoldable pub spare_text : ℕ → List ℕ
+spare_text count =
+    single_text (codes "gonukire_spare_lines") (codes "gauge") (codes "Places for lines that a reload may bring.") count
+
 -- calls, those that are live and all
 unfoldable pub live_text : List LiveCall → List ℕ
 live_text calls =
@@ -163,6 +168,6 @@ reloads_text reloads =
 -- all metrics
 unfoldable pub metrics_text : ExchangeStatus → List ℕ
 metrics_text status =
-    lines_text status.lines.items ++ calls_text status ++ refused_text status.totals
+    lines_text status.lines.items ++ spare_text status.spare_lines ++ calls_text status ++ refused_text status.totals
     ++ failures_text status.totals ++ stations_text status.stations.items ++ segments_text status.totals ++ octets_text status.totals ++ events_text status.totals
     ++ records_text status.totals ++ reloads_text status.reloads

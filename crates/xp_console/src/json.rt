@@ -1,10 +1,14 @@
 //! One moment of the exchange as JSON.
 
-ghost use Rattle.std.specs.Prelude.{◌≡◌, IfOk, map, string_bytes};
+ghost use Rattle.std.specs.Prelude.{◌≡◌, ◌++◌, codes, IfOk, map, OnOk, string_bytes};
 ghost use Rattle.serde_json.specs.Data.{array};
 ghost use Rattle.serde_json.specs.View.{items_of, view};
-ghost use Rattle.xp_console.specs.Json.{calls_data, cleared_data, ended_data, json_text, line_data, lines_data, live_data, optional_data, optional_party_data, party_data, peer_data, recent_data, refused_data, reloads_data, segments_data, station_data, stations_data, status_data, totals_data};
+ghost use Rattle.serde_json.specs.Written.{compact_text};
+ghost use Rattle.xp_console.specs.declared.json_text.Place.TheVariants.{Later};
+ghost use Rattle.xp_console.specs.steps.Members.{member_text};
+ghost use Rattle.xp_console.specs.Json.{cleared_data, ended_data, json_text, line_data, live_data, optional_data, optional_party_data, party_data, peer_data, refused_data, reloads_data, segments_data, station_data, status_data, totals_data};
 
+use crate::json_text::{Item, Place, push_array, push_count, push_member};
 use crate::object::Object;
 use crate::status::{
     EndedCall, ExchangeStatus, LineStatus, LiveCall, Party, ReloadCounts, StationCalls, Totals,
@@ -14,37 +18,82 @@ use serde_json::Value;
 use std::alloc::{AllocError, Global};
 use std::net::SocketAddr;
 
-/// What the exchange shows of one moment, as JSON with no space.
-#[tactic(auto, using(crate::proofs::Floats::status_has_no_float), unfolding(crate::specs::Json::json_text))]
+/// What the exchange shows of one moment, as JSON with no space. It is written piece by piece, and other threads get a turn in between.
+#[tactic(auto, unfolding(crate::specs::Json::json_text))]
 pub(crate) fn status_json(alloc: Global, status: &ExchangeStatus) -> Result<String, AllocError>
     ensures { IfOk result (λ text. string_bytes text ≡ json_text status.now) }
 {
-    status_value(alloc, status)?.to_string(alloc)
+    let mut text = String::new(alloc);
+    push_status(alloc, &mut text, status)?;
+    Ok(text)
 }
 
-fn status_value(alloc: Global, status: &ExchangeStatus) -> Result<Value, AllocError>
-    ensures { IfOk result (λ value. view value ≡ status_data status.now) }
+/// Writes what the exchange shows of one moment.
+fn push_status(alloc: Global, text: &mut String, status: &ExchangeStatus) -> Result<(), AllocError>
+    ensures { OnOk result (string_bytes text.new ≡ string_bytes text.old ++ compact_text (status_data status.now)) }
 {
-    Object::new(alloc)
-        .with("calls", calls_value(alloc, &status.calls))
-        .with("lines", lines_value(alloc, &status.lines))
-        .with_count("moment", status.moment)
-        .with("recent", recent_value(alloc, &status.recent))
-        .with("reloads", reloads_value(alloc, status.reloads))
-        .with_count("started", status.started)
-        .with("stations", stations_value(alloc, &status.stations))
-        .with("totals", totals_value(alloc, &status.totals))
-        .value()
+    text.push_str("{")?;
+    push_array(alloc, text, Place::First, "calls", &status.calls)?;
+    push_array(alloc, text, Place::Later, "lines", &status.lines)?;
+    push_count(alloc, text, Place::Later, "moment", status.moment)?;
+    push_array(alloc, text, Place::Later, "recent", &status.recent)?;
+    push_reloads(alloc, text, status.reloads)?;
+    push_count(alloc, text, Place::Later, "started", status.started)?;
+    push_array(alloc, text, Place::Later, "stations", &status.stations)?;
+    push_totals(alloc, text, &status.totals)?;
+    text.push_str("}")
 }
 
-fn lines_value(alloc: Global, lines: &[LineStatus]) -> Result<Value, AllocError>
-    ensures { IfOk result (λ value. view value ≡ lines_data lines.now) }
+/// Writes how often the subscription file was read again.
+fn push_reloads(alloc: Global, text: &mut String, reloads: ReloadCounts) -> Result<(), AllocError>
+    ensures { OnOk result (string_bytes text.new ≡ string_bytes text.old ++ member_text Later (codes "reloads") (reloads_data reloads)) }
 {
-    let mut values = Vec::with_capacity(alloc, lines.len())?;
-    for line in lines {
-        values.push(line_value(alloc, line)?)?;
+    let value = reloads_value(alloc, reloads)?;
+    push_member(alloc, text, Place::Later, "reloads", &value)
+}
+
+/// Writes the totals.
+fn push_totals(alloc: Global, text: &mut String, totals: &Totals) -> Result<(), AllocError>
+    ensures { OnOk result (string_bytes text.new ≡ string_bytes text.old ++ member_text Later (codes "totals") (totals_data totals.now)) }
+{
+    let value = totals_value(alloc, totals)?;
+    push_member(alloc, text, Place::Later, "totals", &value)
+}
+
+impl Item for LineStatus {
+    ghost shown = { line_data };
+
+    #[tactic(auto, using(crate::proofs::Floats::line_has_no_float))]
+    fn value(&self, alloc: Global) -> Result<Value, AllocError> {
+        line_value(alloc, self)
     }
-    Ok(Value::Array(values))
+}
+
+impl Item for LiveCall {
+    ghost shown = { live_data };
+
+    #[tactic(auto, using(crate::proofs::Floats::live_has_no_float))]
+    fn value(&self, alloc: Global) -> Result<Value, AllocError> {
+        live_value(alloc, self)
+    }
+}
+
+impl Item for EndedCall {
+    ghost shown = { ended_data };
+
+    #[tactic(auto, using(crate::proofs::Floats::ended_has_no_float))]
+    fn value(&self, alloc: Global) -> Result<Value, AllocError> {
+        ended_value(alloc, self)
+    }
+}
+
+impl Item for StationCalls {
+    ghost shown = { station_data };
+
+    #[tactic(auto, using(crate::proofs::Floats::station_has_no_float))]
+    fn value(&self, alloc: Global) -> Result<Value, AllocError> {
+        station_value(alloc, self)
+    }
 }
 
 fn line_value(alloc: Global, line: &LineStatus) -> Result<Value, AllocError>
@@ -65,16 +114,6 @@ fn line_value(alloc: Global, line: &LineStatus) -> Result<Value, AllocError>
         .value()
 }
 
-fn calls_value(alloc: Global, calls: &[LiveCall]) -> Result<Value, AllocError>
-    ensures { IfOk result (λ value. view value ≡ calls_data calls.now) }
-{
-    let mut values = Vec::with_capacity(alloc, calls.len())?;
-    for call in calls {
-        values.push(live_value(alloc, call)?)?;
-    }
-    Ok(Value::Array(values))
-}
-
 fn live_value(alloc: Global, call: &LiveCall) -> Result<Value, AllocError>
     ensures { IfOk result (λ value. view value ≡ live_data call.now) }
 {
@@ -90,16 +129,6 @@ fn live_value(alloc: Global, call: &LiveCall) -> Result<Value, AllocError>
             segments_value(alloc, call.segments_from_caller, call.segments_from_called),
         )
         .value()
-}
-
-fn recent_value(alloc: Global, calls: &[EndedCall]) -> Result<Value, AllocError>
-    ensures { IfOk result (λ value. view value ≡ recent_data calls.now) }
-{
-    let mut values = Vec::with_capacity(alloc, calls.len())?;
-    for call in calls {
-        values.push(ended_value(alloc, call)?)?;
-    }
-    Ok(Value::Array(values))
 }
 
 fn ended_value(alloc: Global, call: &EndedCall) -> Result<Value, AllocError>
@@ -121,16 +150,6 @@ fn ended_value(alloc: Global, call: &EndedCall) -> Result<Value, AllocError>
             segments_value(alloc, call.segments_from_caller, call.segments_from_called),
         )
         .value()
-}
-
-fn stations_value(alloc: Global, stations: &[StationCalls]) -> Result<Value, AllocError>
-    ensures { IfOk result (λ value. view value ≡ stations_data stations.now) }
-{
-    let mut values = Vec::with_capacity(alloc, stations.len())?;
-    for station in stations {
-        values.push(station_value(alloc, station)?)?;
-    }
-    Ok(Value::Array(values))
 }
 
 fn station_value(alloc: Global, station: &StationCalls) -> Result<Value, AllocError>

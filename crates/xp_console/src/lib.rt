@@ -9,6 +9,7 @@ mod clients;
 mod console;
 mod hosts;
 mod json;
+mod json_text;
 mod metrics;
 mod object;
 mod page;
@@ -21,6 +22,7 @@ mod service;
 mod station_metrics;
 mod status;
 mod table;
+mod turns;
 mod words;
 
 pub use asking::{AskFault, ask_reload, ask_status, ask_stop};

@@ -1,7 +1,7 @@
 //! The counts in Prometheus' text format.
 
 ghost use Rattle.std.specs.Prelude.{◌≡◌, ◌++◌, decimal, flat_map, IfOk, OnOk, string_bytes};
-ghost use Rattle.xp_console.specs.Metrics.{calls_text, count_in, directions_text, events_text, failures_text, head_text, is_same_state, labelled_text, lines_text, live_text, metrics_text, octets_text, records_text, reloads_text, results_text, cause_sample, causes_text, refused_text, sample_text, segments_text, single_text, state_sample};
+ghost use Rattle.xp_console.specs.Metrics.{calls_text, count_in, directions_text, events_text, failures_text, head_text, is_same_state, labelled_text, lines_text, live_text, metrics_text, octets_text, records_text, reloads_text, results_text, spare_text, cause_sample, causes_text, refused_text, sample_text, segments_text, single_text, state_sample};
 
 use crate::refused::RefusedCalls;
 use crate::station_metrics::push_stations;
@@ -42,6 +42,7 @@ pub(crate) fn status_metrics(alloc: Global, status: &ExchangeStatus) -> Result<S
 {
     let mut text = String::new(alloc);
     push_lines(&mut text, &status.lines)?;
+    push_spare(&mut text, status.spare_lines)?;
     push_calls(&mut text, status)?;
     push_refused(&mut text, &status.totals)?;
     push_failures(&mut text, &status.totals)?;
@@ -60,6 +61,20 @@ fn push_lines(text: &mut String, lines: &[LineStatus]) -> Result<(), AllocError>
 {
     push_head(text, LINES, GAUGE, "Lines, by the state of their channel.")?;
     push_states(text, lines, &STATES)
+}
+
+/// How many places have no line.
+#[tactic(auto, unfolding(crate::specs::Metrics::spare_text))]
+fn push_spare(text: &mut String, count: u64) -> Result<(), AllocError>
+    ensures { OnOk result (string_bytes text.new ≡ string_bytes text.old ++ spare_text count) }
+{
+    push_single(
+        text,
+        "gonukire_spare_lines",
+        GAUGE,
+        "Places for lines that a reload may bring.",
+        count,
+    )
 }
 
 /// How many lines are in each of these states.

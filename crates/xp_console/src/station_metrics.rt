@@ -5,6 +5,7 @@ ghost use Rattle.xp_console.specs.Metrics.{station_calls_sample, station_calls_t
 
 use crate::metrics::{COUNTER, push_all, push_head, push_labelled, push_number};
 use crate::status::StationCalls;
+use crate::turns::let_others_run;
 use std::alloc::AllocError;
 
 const CALLS: &str = "gonukire_station_calls_total";
@@ -31,7 +32,8 @@ fn push_calls(text: &mut String, stations: &[StationCalls]) -> Result<(), AllocE
 fn push_calls_of_each(text: &mut String, stations: &[StationCalls]) -> Result<(), AllocError>
     ensures { OnOk result (string_bytes text.new ≡ string_bytes text.old ++ flat_map station_calls_sample stations.now) }
 {
-    for station in stations {
+    for (number, station) in stations.iter().enumerate() {
+        let_others_run(number);
         push_calls_of(text, station)?;
     }
     Ok(())
@@ -91,7 +93,8 @@ fn push_refusals(text: &mut String, stations: &[StationCalls]) -> Result<(), All
 fn push_refusals_of_each(text: &mut String, stations: &[StationCalls]) -> Result<(), AllocError>
     ensures { OnOk result (string_bytes text.new ≡ string_bytes text.old ++ flat_map station_refusals_sample stations.now) }
 {
-    for station in stations {
+    for (number, station) in stations.iter().enumerate() {
+        let_others_run(number);
         push_refusals_of(text, station)?;
     }
     Ok(())

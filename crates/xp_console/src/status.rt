@@ -10,8 +10,10 @@ pub struct ExchangeStatus {
     pub started: u64,
     /// The moment that is shown.
     pub moment: u64,
-    /// The lines, in the order of the subscription file.
+    /// The lines, in the order of their places.
     pub lines: Vec<LineStatus>,
+    /// How many places have no line: a reload may bring one.
+    pub spare_lines: u64,
     /// The live calls.
     pub calls: Vec<LiveCall>,
     /// The calls that ended last, at most 100, the latest last.

@@ -10,6 +10,8 @@ pub mod Few
 pub mod Fitting
 pub mod Flows
 pub mod Fronts
+pub mod GivenUp
+pub mod Going
 pub mod Handed
 pub mod Idle
 pub mod Joined

@@ -35,7 +35,7 @@ left_changed line way cause diagnostic None world = refl
 left_changed line way cause diagnostic (Some found) world = refl
 
 -- the table of actions has nothing for a line out of service
-when_off : (state : State) → is_off state ≡ true → cell (channel_of state) kinds.Down ≡ Nothing
+pub when_off : (state : State) → is_off state ≡ true → cell (channel_of state) kinds.Down ≡ Nothing
 when_off Off off = refl
 when_off Ready off = absurd (cc)
 when_off (Waiting number) off = absurd (cc)
@@ -43,7 +43,7 @@ when_off (Ringing number) off = absurd (cc)
 when_off (Talking number) off = absurd (cc)
 when_off Cleared off = absurd (cc)
 
-when_on : (state : State) → is_off state ≡ false → cell (channel_of state) kinds.Down ≡ Fall
+pub when_on : (state : State) → is_off state ≡ false → cell (channel_of state) kinds.Down ≡ Fall
 when_on Off on = absurd (cc)
 when_on Ready on = refl
 when_on (Waiting number) on = refl

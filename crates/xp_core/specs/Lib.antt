@@ -1,6 +1,7 @@
 pub mod Delivered
 pub mod Determined
 pub mod Existence
+pub mod GivenUp
 pub mod Joined
 pub mod Lines
 pub mod OutputsPerLine

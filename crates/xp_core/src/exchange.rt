@@ -1,12 +1,12 @@
 //! The serial exchange. It takes one event after another, and enters each into the history. The history is a list that
 //! proofs alone can read: it takes no memory, however long the exchange runs.
 
-ghost use Rattle.std.specs.Prelude.{◌≡◌, ◌+◌, ◌<◌, ◌≤◌, ◌^◌, true, [], ◌∷◌, ◌++◌, All, IfOk, IfErr, IsOk, OnErr, OnOk, Err, length};
+ghost use Rattle.std.specs.Prelude.{◌≡◌, ◌+◌, ◌<◌, ◌≤◌, ◌^◌, true, [], ◌∷◌, ◌++◌, All, IfOk, IfErr, IsOk, OnErr, OnOk, Err, length, vec_capacity, vec_len};
 ghost use Rattle.xp_charge.specs.Lines.{HasLines as NamesLines};
 ghost use Rattle.xp_subs.specs.Tables.{line_count};
 ghost use Rattle.xp_machine.specs.Channel.{is_off as is_off_in};
 ghost use Rattle.xp_step.specs.Exchange.{world_of};
-ghost use Rattle.xp_step.specs.InForce.{brought_by, in_force};
+ghost use Rattle.xp_step.specs.InForce.{MayFollow, brought_by, in_force};
 ghost use Rattle.xp_core.specs.View.{call_seen_on, flow_at};
 ghost use Rattle.xp_machine.specs.View.{view_of};
 ghost use Rattle.xp_machine.specs.World.{line_at, state_at};
@@ -15,7 +15,7 @@ use crate::advance::advance;
 use crate::call_view::{CallView, see_call};
 use crate::fault::StepFault;
 use crate::journal::Journal;
-use crate::reload::{ReloadFault, reload};
+use crate::reload::{ReloadFault, going, may_replace, reload};
 use crate::stalling::is_off;
 use std::alloc::{AllocError, Allocator, Global};
 use std::marker::Model;
@@ -62,7 +62,7 @@ impl<A: Allocator> Model for Core<A> {
 }
 
 impl<A: Allocator + Copy> Core<A> {
-    ghost use Rattle.xp_core.specs.Reload.{IsRefusedFor, reload_at};
+    ghost use Rattle.xp_core.specs.Reload.{AreGoingFrom, IsRefusedFor, reload_at};
     ghost use Rattle.xp_step.specs.Exchange.{Advances, IsReadable};
     ghost use Rattle.xp_core.specs.Lines.{HasLines};
     ghost use Rattle.xp_core.specs.OutputsPerLine.{AreFew};
@@ -133,17 +133,19 @@ impl<A: Allocator + Copy> Core<A> {
     }
 
     /// Puts other subscriptions into force at this moment, and returns the entry of that. From then on call requests are
-    /// decided by them. Lines stay as they are, and live calls go on.
+    /// decided by them. Lines stay as they are, and live calls go on. It allocates nothing.
     ///
     /// # Errors
     ///
     /// `JournalFull` if no place of the history is left. `Frame` if the new subscriptions differ from those in force in what
-    /// cannot change while the exchange serves. `InCall` if the address of a line in a call would change. Nothing has
-    /// changed then.
+    /// cannot change while the exchange serves. `InCall` if the address of a line that stays, and is in a call, would change.
+    /// `InService` if a place does not keep its line, and the line is in service. Nothing has changed then.
     pub fn reload(&mut self, subs: Subs, moment: u64) -> Result<Entry<A>, ReloadFault>
+        ensures may { MayFollow (in_force self.old.subs self.old.history) (world_of self.old) subs → length self.old.history < self.old.subs.journal → IsOk result }
         ensures ok { IfOk result (λ entry. Advances self.old (reload_at moment) self.new entry) }
         ensures brought { IfOk result (λ entry. entry.tables.items ≡ subs ∷ []) }
         ensures quiet { IfOk result (λ entry. entry.outputs ≡ []) }
+        ensures unrecorded { IfOk result (λ entry. entry.records.items ≡ []) }
         ensures stalls { self.new.stalls ≡ self.old.stalls }
         ensures refused { IfErr result (IsRefusedFor self.old subs) }
         ensures err { OnErr result (self.new ≡ self.old) }
@@ -175,14 +177,39 @@ impl<A: Allocator + Copy> Core<A> {
         self.journal.take_records(self.alloc)
     }
 
-    /// Prepares the three stalls that may follow one event. Each of them then allocates nothing, whatever other events
-    /// come before it. If memory is wanting, some of them may be prepared all the same.
-    pub fn reserve_stalls(&mut self) -> Result<(), AllocError>
-        ensures ok { OnOk result (3 ≤ self.new.stalls) }
+    /// Hands over the charging records that wait, behind those that were taken. It allocates nothing.
+    pub fn take_records_into(&mut self, taken: &mut Vec<Record, A>)
+        requires room { vec_len taken.old + length self.old.waiting ≤ vec_capacity taken.old }
+        ensures taken { taken.new.items ≡ taken.old.items ++ self.old.waiting }
+        ensures is { self.new ≡ record self.old { given = self.old.given ++ self.old.waiting; waiting = [] } }
+        ensures each { self.old.given ++ self.old.waiting ≡ records_of self.old.history }
+        ensures lines { All (NamesLines (line_count self.old.subs)) self.old.waiting }
+    {
+        self.journal.take_records_into(taken);
+    }
+
+    /// Prepares so many stalls. Each of them then allocates nothing, whatever other events come before it. If memory is
+    /// wanting, some of them may be prepared all the same.
+    pub fn reserve_stalls(&mut self, count: usize) -> Result<(), AllocError>
+        ensures ok { OnOk result (count ≤ self.new.stalls) }
         ensures more { self.old.stalls ≤ self.new.stalls }
         ensures rest { self.new ≡ record self.old { stalls = self.new.stalls } }
     {
-        self.journal.prepare_stalls(self.alloc)
+        self.journal.prepare_stalls(self.alloc, count)
+    }
+
+    /// Returns the allocator of what it gives and keeps.
+    pub fn allocator(&self) -> A {
+        self.alloc
+    }
+
+    /// Returns the lines that must be given up before these subscriptions can come into force, the lowest first: they are in
+    /// service, and their places do not keep them.
+    pub fn going(&self, next: &Subs) -> Result<Vec<LineNo, A>, AllocError>
+        requires { line_count next.now ≡ line_count self.now.subs }
+        ensures { IfOk result (λ lines. AreGoingFrom self.now next.now lines.items) }
+    {
+        going(self.alloc, self.in_force(), &self.machine, next)
     }
 }
 
@@ -193,6 +220,7 @@ impl<A: Allocator> Core<A> {
     ghost use Rattle.xp_core.specs.Joined.{AreJoined};
     ghost use Rattle.xp_core.specs.Lines.{HasLines};
     ghost use Rattle.xp_core.specs.Records.{OneRecordEach, records_of};
+    ghost use Rattle.xp_core.specs.Reload.{IsLastingRefusal, MayReplaceIn};
     ghost use Rattle.xp_step.specs.Run.{Run};
     ghost use Rattle.xp_step.specs.Stalls.{stalls_in};
     ghost use Rattle.xp_core.specs.Writable.{AreWritable};
@@ -293,6 +321,15 @@ impl<A: Allocator> Core<A> {
         ensures { result.now ≡ self.now.subs }
     {
         &self.subs.opening
+    }
+
+    /// Returns why these subscriptions cannot come into force, or nothing if they can as soon as the lines that must go are out
+    /// of service. It is never `JournalFull` or `InService`.
+    pub fn may_reload(&self, next: &Subs) -> Result<(), ReloadFault>
+        ensures ok { OnOk result (MayReplaceIn self.now next.now) }
+        ensures err { IfErr result (IsLastingRefusal (in_force self.now.subs self.now.history) (world_of self.now) next.now) }
+    {
+        may_replace(self.in_force(), &self.machine, next)
     }
 
     /// Returns the subscriptions in force: those of the last reload, or those with which the exchange was opened.

@@ -4,7 +4,6 @@ ghost use Rattle.std.specs.Prelude.{◌≡◌, ◌+◌, ◌<◌, ◌≤◌, ◌^
 ghost use Rattle.xp_step.specs.InForce.{brought_by};
 ghost use Rattle.xp_step.specs.Stalls.{is_stall, stalls_in};
 ghost use Rattle.xp_core.specs.steps.Journal.{AreSame, HasHandedOver, IsSpent, next_entry};
-ghost use Rattle.xp_step.specs.declared.event.TheConstants.{MOST_STALLS};
 
 use crate::advance::PreparedEntry;
 use crate::stalling::Spare;
@@ -12,7 +11,7 @@ use std::alloc::{AllocError, Allocator};
 use std::marker::Model;
 use xp_charge::Record;
 use xp_past::Past;
-use xp_step::{Entry, Event, MOST_STALLS, What};
+use xp_step::{Entry, Event, What};
 use xp_subs::Subs;
 
 /// The history and the records. The history takes no memory: it is counted. The records wait until they are handed over.
@@ -40,7 +39,7 @@ impl<A: Allocator> Model for Journal<A> {
 
     ghost view = { λ j. record { history = j.history.items; given = j.given.items; waiting = j.waiting.items; stalls = vec_len j.spares; record_room = vec_capacity j.waiting - vec_len j.waiting } };
 
-    ghost invariant = { λ j. (j.count ≡ length j.history.items) × (j.stall_count ≡ stalls_in j.history.items) × (j.given_count ≡ length j.given.items) × (vec_len j.waiting + vec_len j.spares ≤ vec_capacity j.waiting) × (vec_len j.spares ≤ 3) };
+    ghost invariant = { λ j. (j.count ≡ length j.history.items) × (j.stall_count ≡ stalls_in j.history.items) × (j.given_count ≡ length j.given.items) × (vec_len j.waiting + vec_len j.spares ≤ vec_capacity j.waiting) };
 }
 
 impl<A: Allocator + Copy> Journal<A> {
@@ -62,17 +61,19 @@ impl<A: Allocator + Copy> Journal<A> {
         }
     }
 
-    /// Prepares all the stalls that may follow one event. If memory is wanting, some of them may be prepared all the
-    /// same.
-    pub fn prepare_stalls(&mut self, alloc: A) -> Result<(), AllocError>
-        ensures ok { OnOk result (MOST_STALLS ≤ self.new.stalls) }
+    /// Prepares so many stalls. If memory is wanting, some of them may be prepared all the same.
+    pub fn prepare_stalls(&mut self, alloc: A, count: usize) -> Result<(), AllocError>
+        ensures ok { OnOk result (count ≤ self.new.stalls) }
         ensures more { self.old.stalls ≤ self.new.stalls }
         ensures history { self.new.history ≡ self.old.history }
         ensures given { self.new.given ≡ self.old.given }
         ensures waiting { self.new.waiting ≡ self.old.waiting }
     {
-        self.waiting.reserve(MOST_STALLS)?;
-        while self.spares.len() < MOST_STALLS {
+        if count <= self.spares.len() {
+            return Ok(());
+        }
+        self.waiting.reserve(count)?;
+        while self.spares.len() < count {
             self.spares.push(Spare::new(alloc)?)?;
         }
         Ok(())
@@ -90,6 +91,19 @@ impl<A: Allocator + Copy> Journal<A> {
         self.given.extend(taken.as_slice());
         self.given_count += taken.len() as u64;
         Ok(taken)
+    }
+
+    /// Hands over the records that wait, behind those that were taken. It allocates nothing.
+    pub fn take_records_into(&mut self, taken: &mut Vec<Record, A>)
+        requires room { vec_len taken.old + length self.old.waiting ≤ vec_capacity taken.old }
+        requires few { length self.old.given + length self.old.waiting < 2 ^ 64 }
+        ensures taken { taken.new.items ≡ taken.old.items ++ self.old.waiting }
+        ensures is { HasHandedOver self.old self.new }
+    {
+        self.given.extend(self.waiting.as_slice());
+        self.given_count += self.waiting.len() as u64;
+        add_all(taken, self.waiting.as_slice());
+        self.waiting.clear();
     }
 }
 

@@ -1,5 +1,6 @@
 ghost use Rattle.xp_core.specs.Determined.{IsDeterminedButLine};
 ghost use Rattle.xp_core.specs.Existence.{EveryEventHasStep};
+ghost use Rattle.xp_core.specs.GivenUp.{StallsGiveUp};
 ghost use Rattle.xp_core.specs.States.{OtherLinesFollow, StateFollowsTable};
 
 use std::alloc::Allocator;
@@ -25,4 +26,9 @@ pub fn state_follows_the_table<A: Allocator>()
 /// line's call; and as that call ends, its far end has a clear indication to confirm.
 pub fn other_lines_follow<A: Allocator>()
     ensures { OtherLinesFollow A }
+{}
+
+/// Law: after a stall its line is out of service. No line has come into service, and none into a call.
+pub fn stalls_give_lines_up<A: Allocator>()
+    ensures { StallsGiveUp A }
 {}

@@ -15,7 +15,7 @@ pub use call_view::CallView;
 pub use exchange::Core;
 pub use fault::StepFault;
 pub use laws::{
-    every_event_has_a_step, other_lines_follow, state_follows_the_table,
+    every_event_has_a_step, other_lines_follow, stalls_give_lines_up, state_follows_the_table,
     step_is_determined_but_the_line,
 };
 pub use reload::ReloadFault;

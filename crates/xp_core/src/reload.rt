@@ -1,20 +1,20 @@
 //! Other subscriptions come into force while the exchange serves.
 
-ghost use Rattle.std.specs.Prelude.{◌≡◌, ◌≤◌, ◌<◌, ◌^◌, ℕ, List, Option, [], ◌∷◌, ◌++◌, IfErr, IfOk, IfSome, IsOk, None, OnErr, OnOk, length};
-ghost use Rattle.xp_core.specs.Reload.{IsRefusal, MovesInCall, reload_at};
+ghost use Rattle.std.specs.Prelude.{◌≡◌, ◌≤◌, ◌<◌, ◌^◌, ◌↔◌, ℕ, true, List, Option, [], ◌∷◌, ◌++◌, IfErr, IfOk, IfSome, IsOk, None, OnErr, OnOk, length};
+ghost use Rattle.xp_core.specs.Reload.{AreGoing, IsLastingRefusal, IsRefusal, MayReplace, MovesInCall, MustGo, reload_at};
 ghost use Rattle.xp_core.specs.steps.PreparedEntry.{Enters};
-ghost use Rattle.xp_core.specs.steps.Reload.{IsReloadEntry};
-ghost use Rattle.xp_machine.specs.World.{call_on};
+ghost use Rattle.xp_core.specs.steps.Reload.{IsIdle, IsReloadEntry, NoneGoes};
 ghost use Rattle.xp_machine.specs.declared.relays.MeteredRelay.{MeteredRelay as Metered};
 ghost use Rattle.xp_step.specs.InForce.{MayFollow, force_of, in_force};
-ghost use Rattle.xp_subs.specs.Tables.{address_of, line_count};
+ghost use Rattle.xp_subs.specs.Tables.{line_count};
 
 use crate::advance::PreparedEntry;
 use crate::journal::Journal;
-use std::alloc::Allocator;
+use crate::stalling::is_off;
+use std::alloc::{AllocError, Allocator};
 use thiserror::Error;
 use xp_machine::Machine;
-use xp_reload::{FrameChange, frame_change};
+use xp_reload::{FrameChange, frame_change, keeps_line};
 use xp_step::{Entry, Event, Outcome, Outputs, Records, SubsInForce, What};
 use xp_subs::{LineNo, Subs};
 
@@ -29,6 +29,9 @@ pub enum ReloadFault {
     /// The address of this line would change, and the line is in a call.
     #[error("line {0}: in a call")]
     InCall(LineNo),
+    /// The place does not keep this line, and the line is in service.
+    #[error("line {0}: in service")]
+    InService(LineNo),
 }
 
 /// Enters a reload of this moment, which brings the next subscriptions, and puts these into force. It allocates nothing.
@@ -43,10 +46,12 @@ pub fn reload<A: Allocator + Copy>(
     requires force { force_of subs.old ≡ in_force subs.old.opening journal.old.history }
     requires some_line { 0 < length machine.now.lines }
     requires few { length journal.old.history < 2 ^ 60 }
+    ensures may { MayFollow (force_of subs.old) machine.now next → length journal.old.history < subs.old.opening.journal → IsOk result }
     ensures ok { (relays : List (Option (Metered A))) → IfOk result (λ entry. Enters subs.old.opening machine.now relays journal.old.history journal.old.waiting (reload_at moment) machine.now relays journal.new.history journal.new.waiting entry) }
     ensures brought { IfOk result (λ entry. entry.tables.items ≡ next ∷ []) }
     ensures room { OnOk result (length journal.old.history < subs.old.opening.journal) }
     ensures quiet { IfOk result (λ entry. entry.outputs ≡ []) }
+    ensures unrecorded { IfOk result (λ entry. entry.records.items ≡ []) }
     ensures refused { IfErr result (IsRefusal subs.old.opening.journal (length journal.old.history) (force_of subs.old) machine.now next) }
     ensures opening { subs.new.opening ≡ subs.old.opening }
     ensures in_force { OnOk result (force_of subs.new ≡ next) }
@@ -69,7 +74,7 @@ pub fn reload<A: Allocator + Copy>(
     }
 }
 
-/// Returns why the next subscriptions cannot come into force after these, or nothing if they can.
+/// Returns why the next subscriptions cannot come into force now, or nothing if they can.
 fn may_follow<A: Allocator>(
     force: &Subs,
     machine: &Machine<A>,
@@ -77,6 +82,23 @@ fn may_follow<A: Allocator>(
 ) -> Result<(), ReloadFault>
     ensures ok { IsOk result → MayFollow force.now machine.now next.now }
     ensures err { (journal entries : ℕ) → IfErr result (IsRefusal journal entries force.now machine.now next.now) }
+{
+    may_replace(force, machine, next)?;
+    match first_going(force, machine, next) {
+        Some(line) => Err(ReloadFault::InService(line)),
+        None => Ok(()),
+    }
+}
+
+/// Returns why the next subscriptions cannot come into force, though the lines that must go were given up, or nothing if they can
+/// then.
+pub fn may_replace<A: Allocator>(
+    force: &Subs,
+    machine: &Machine<A>,
+    next: &Subs,
+) -> Result<(), ReloadFault>
+    ensures ok { IsOk result → MayReplace force.now machine.now next.now }
+    ensures err { IfErr result (IsLastingRefusal force.now machine.now next.now) }
 {
     let _sound = next.counts();
     if let Some(change) = frame_change(force, next) {
@@ -88,7 +110,7 @@ fn may_follow<A: Allocator>(
     }
 }
 
-/// Returns the first line that is in a call and would get another address.
+/// Returns the first line that stays, is in a call, and would get another address.
 fn line_moved_in_call<A: Allocator>(
     force: &Subs,
     machine: &Machine<A>,
@@ -96,15 +118,75 @@ fn line_moved_in_call<A: Allocator>(
 ) -> Option<LineNo>
     requires { line_count next.now ≡ line_count force.now }
     ensures some { IfSome result (MovesInCall force.now machine.now next.now) }
-    ensures none { result ≡ None → (line : ℕ) → line < line_count force.now → (address_of next.now line ≡ address_of force.now line → ⊥) → call_on machine.now line ≡ None }
+    ensures none { result ≡ None → IsIdle force.now machine.now next.now (line_count force.now) }
 {
     for number in 0..force.counts().lines {
         let line = number as LineNo;
-        if *next.address_of(line) != *force.address_of(line) && machine.call_on(line).is_some() {
+        if moves_in_call(force, machine, next, line) {
             return Some(line);
         }
     }
     None
+}
+
+/// Returns whether a line stays, is in a call, and would get another address.
+fn moves_in_call<A: Allocator>(
+    force: &Subs,
+    machine: &Machine<A>,
+    next: &Subs,
+    line: LineNo,
+) -> bool
+    requires known { line < line_count force.now }
+    requires same { line_count next.now ≡ line_count force.now }
+    ensures { result ≡ true ↔ MovesInCall force.now machine.now next.now line }
+{
+    machine.call_on(line).is_some()
+        && keeps_line(force, next, line)
+        && *next.address_of(line) != *force.address_of(line)
+}
+
+/// Returns the first line that must go.
+fn first_going<A: Allocator>(force: &Subs, machine: &Machine<A>, next: &Subs) -> Option<LineNo>
+    requires { line_count next.now ≡ line_count force.now }
+    ensures some { IfSome result (MustGo force.now machine.now next.now) }
+    ensures none { result ≡ None → NoneGoes force.now machine.now next.now (line_count force.now) }
+{
+    for number in 0..force.counts().lines {
+        let line = number as LineNo;
+        if must_go(force, machine, next, line) {
+            return Some(line);
+        }
+    }
+    None
+}
+
+/// Returns the lines that must go, the lowest first.
+pub fn going<A: Allocator>(
+    alloc: A,
+    force: &Subs,
+    machine: &Machine<A>,
+    next: &Subs,
+) -> Result<Vec<LineNo, A>, AllocError>
+    requires { line_count next.now ≡ line_count force.now }
+    ensures { IfOk result (λ lines. AreGoing force.now machine.now next.now lines.items) }
+{
+    let mut lines = Vec::new(alloc);
+    for number in 0..force.counts().lines {
+        let line = number as LineNo;
+        if must_go(force, machine, next, line) {
+            lines.push(line)?;
+        }
+    }
+    Ok(lines)
+}
+
+/// Returns whether a line is in service, and its place does not keep it.
+fn must_go<A: Allocator>(force: &Subs, machine: &Machine<A>, next: &Subs, line: LineNo) -> bool
+    requires known { line < line_count force.now }
+    requires same { line_count next.now ≡ line_count force.now }
+    ensures { result ≡ true ↔ MustGo force.now machine.now next.now line }
+{
+    !is_off(machine.line(line).state) && !keeps_line(force, next, line)
 }
 
 /// Enters a reload of this moment, which brings these subscriptions.

@@ -7,7 +7,7 @@ use Rattle.xp_hunt.specs.declared.lines.LineState.{LineState}
 use Rattle.xp_hunt.specs.declared.lines.LineState.TheVariants.{Idle, Busy}
 use Rattle.xp_packets.specs.declared.block.Block.{Block}
 use Rattle.xp_subs.specs.Sound.{IsSound, IsTarget}
-use Rattle.xp_subs.specs.Tables.{Tables, line_count, modulus_of, station_at, station_of, target_of}
+use Rattle.xp_subs.specs.Tables.{Tables, line_count, modulus_of, station_at, station_count, station_of, target_of}
 use Rattle.xp_subs.specs.declared.station.Station.{Station}
 use Rattle.xp_subs.specs.declared.target.Target.{Target}
 use Rattle.xp_decide.specs.Asks.{station_of_line, Asks, wanted_of}
@@ -52,16 +52,19 @@ owned tables station (Some one) line sound target contains =
 pub record IsPlaced (tables : Tables) (place : Place) (line : ℕ) : Type 0 where
   pub known : line < line_count tables
   pub station : place.station ≡ station_of_line tables line
+  pub is_there : station_of tables line < station_count tables
 
 pub is_placed : (tables : Tables) (address : List ℕ) (place : Place) (line : ℕ) → IsSound tables
     → place_at tables address ≡ Some place → Contains place.lines line → IsPlaced tables place line
 is_placed tables address place line sound known contains =
     let p = led tables (target_of tables address) place known in
     let P : Place → Type 0 = λ q. Contains q.lines line in
-    let own = owned tables p.target.station p.target.line line sound (sound.target address p.target p.found_is) (subst P p.place_is contains) in
+    let target = sound.target address p.target p.found_is in
+    let own = owned tables p.target.station p.target.line line sound target (subst P p.place_is contains) in
     record {
       known = own.0;
       station = ap (λ (q : Place). q.station) p.place_is ∙ ap (station_at tables) (sym own.1);
+      is_there = subst (λ station. station < station_count tables) (sym own.1) target.0;
     }
 
 -- a line that a call reaches stands in the tables

@@ -74,7 +74,7 @@ taker_short : (tables : Tables) (states : ℕ → LineState) (wanted : Wanted) (
     → TakesAt tables states wanted address line admission → index_fits admission.indicated ≡ true
 taker_short tables states wanted address line admission sound takes =
     let placed = is_placed tables address takes.place line sound takes.known takes.idle.0 in
-    let short = sound.indexes (station_of tables line) (sound.placed line placed.known) in
+    let short = sound.indexes (station_of tables line) placed.is_there in
     index_told wanted.intent takes.place.station admission (subst HasShortIndexes (sym placed.station) short) takes.accepts.admitted
 
 -- a size that is in its range, reduced to at most `bound`

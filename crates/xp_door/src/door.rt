@@ -1,17 +1,17 @@
 //! The TCP port that routers connect to.
 
 use crate::callers::{Callers, Heard};
-use crate::choosing::Choice;
 use crate::connect_fault::ConnectFault;
 use crate::door_bell::DoorBell;
-use crate::lines_behind::{LinesBehind, lines_by_router, place_behind};
+use crate::doorway::Doorway;
+use crate::lines_behind::Given;
 use crate::notices::{Notice, Notices};
 use crate::refused_calls::RefusedCalls;
 use crate::router_call::RouterCall;
-use crate::router_line::{Arrival, RouterLine};
+use crate::router_line::{Arrival, RouterLine, Wish};
 use crate::wakers::LineWaker;
 use crate::want::is_in_want;
-use mio::net::{TcpListener, TcpStream};
+use mio::net::TcpStream;
 use mio::{Events, Poll};
 use std::alloc::{AllocError, Global};
 use std::io::ErrorKind;
@@ -20,37 +20,31 @@ use std::sync::{Arc, Wait};
 use std::time::Duration;
 use xp_causes::Refusal;
 use xp_clock::uptime;
-use xp_subs::MOST_LINES;
+use xp_subs::{LineNo, MOST_LINES};
 
 /// How many connections are taken at most before the lines are looked at again.
 const MOST_TAKEN: usize = 16;
 
-/// How often a line is chosen for a connection at most, where those that were chosen took another meanwhile.
-const MOST_CHOICES: usize = 16;
-
 /// How long the thread sleeps at most, in milliseconds.
 const LONGEST_SLEEP: u64 = 500;
 
-/// The door of the lines behind routers: it listens at one TCP port for all routers. A connection waits with it until its first frame
-/// is whole, and is then given to a line behind the router that it comes from. It begins the connections to routers that lines wait
-/// for. It waits for no line and no router.
+/// The door of the lines behind routers: it listens at one TCP port for all routers, where a line is behind one. A connection waits
+/// with it until its first frame is whole, and is then given to a line behind the router that it comes from. It begins the connections
+/// to routers that lines wait for. It waits for no line and no router.
 pub struct Door {
     alloc: Global,
-    listener: TcpListener,
+    doorway: Arc<Doorway>,
     poll: Poll,
     /// Room for what the thread was woken by, which is not looked at.
     events: Events,
-    /// The lines behind routers, in line order.
+    /// All lines, in order.
     lines: Vec<Arc<RouterLine>>,
-    /// The same lines, by their routers.
-    routers: Vec<LinesBehind>,
     /// Room for the numbers of the lines for which the bell was rung.
     wanted: Vec<usize>,
     callers: Callers,
     refused: RefusedCalls,
     wakers: Arc<Vec<LineWaker>>,
     notices: Arc<Notices>,
-    bell: Arc<DoorBell>,
     /// No connection could be accepted, for want of descriptors or of memory, and none was since.
     is_failing: bool,
 }
@@ -59,81 +53,63 @@ impl Drop for Door {
     fn drop(self) {
         let Door {
             alloc: _,
-            listener: _,
+            doorway,
             poll: _,
             events: _,
             lines: _,
-            routers: _,
             wanted: _,
             callers: _,
             refused: _,
             wakers: _,
             notices: _,
-            bell: _,
             is_failing: _,
         } = self;
+        doorway.close();
     }
 }
 
-/// What a door is made of, before its lines are known.
-#[derive(Drop)]
-pub struct DoorSockets {
-    pub listener: TcpListener,
-    pub poll: Poll,
-    pub events: Events,
-    pub bell: Arc<DoorBell>,
-    pub port: u16,
-}
-
 impl Door {
+    /// The door of all lines, in order, whose thread waits on these sockets.
     pub fn new(
         alloc: Global,
-        sockets: DoorSockets,
+        doorway: Arc<Doorway>,
+        poll: Poll,
+        events: Events,
         lines: Vec<Arc<RouterLine>>,
         wakers: Arc<Vec<LineWaker>>,
         notices: Arc<Notices>,
     ) -> Result<Door, AllocError> {
         let wanted = Vec::with_capacity(alloc, MOST_LINES)?;
-        let routers = lines_by_router(alloc, &lines)?;
-        let DoorSockets {
-            listener,
-            poll,
-            events,
-            bell,
-            port: _,
-        } = sockets;
         Ok(Door {
             alloc,
-            listener,
+            doorway,
             poll,
             events,
             lines,
-            routers,
             wanted,
             callers: Callers::new(alloc),
             refused: RefusedCalls::new(alloc),
             wakers,
             notices,
-            bell,
             is_failing: false,
         })
     }
 
     /// What stops the door.
     pub fn bell(&self) -> Result<Arc<DoorBell>, AllocError> {
-        Arc::try_clone(&self.bell)
+        Arc::try_clone(&self.doorway.bell)
     }
 
     /// Takes connections, and begins those that lines wait for, until the bell tells it to stop.
     pub fn run<R: Net + Wait>(self, rt: &R) {
         let mut door = self;
         for _turn in rt.forever() {
-            if door.bell.is_stopped() {
+            if door.doorway.bell.is_stopped() {
                 return;
             }
             door.begin_wanted(rt);
-            let may_be_more = door.accept_some();
-            door.hear_callers();
+            let may_be_more = door.accept_some(rt);
+            door.hear_callers(rt);
             if !may_be_more {
                 door.sleep();
             }
@@ -148,60 +124,51 @@ impl Door {
     }
 
     /// Begins the connections that lines wait for, if the bell was rung.
-    fn begin_wanted<R: Net>(&mut self, rt: &R) {
-        if !self.bell.take_ring() {
+    fn begin_wanted<R: Net + Wait>(&mut self, rt: &R) {
+        if !self.doorway.bell.take_ring() {
             return;
         }
-        if self.bell.take_wanted(&mut self.wanted).is_err() {
+        if self.doorway.bell.take_wanted(&mut self.wanted).is_err() {
             // The bell stays rung for the lines that were not taken.
-            self.bell.ring();
+            self.doorway.bell.ring();
         }
         for index in 0..self.wanted.len() {
             if let Some(back) = self.begin_next(rt, index) {
-                self.receive(back);
+                self.receive(rt, back);
             }
         }
     }
 
-    /// Begins the connection of the line that stands in this place among those for which the bell was rung.
+    /// Begins the connection that the line waits for which stands in this place among those for which the bell was rung, if it does. The
+    /// connection comes back that the line was given before.
     fn begin_next<R: Net>(&self, rt: &R, index: usize) -> Option<Arrival> {
         let number = *self.wanted.get(index)?;
-        let place = self
-            .lines
-            .binary_search_by_key(&number, |line| usize::from(line.line))
-            .ok()?;
-        self.begin_for(rt, place)
-    }
-
-    /// Begins the connection that a line waits for, if it does. The connection comes back that the line was given before.
-    fn begin_for<R: Net>(&self, rt: &R, place: usize) -> Option<Arrival> {
-        let line = self.lines.get(place)?;
-        match line.is_wanted() {
-            Some(true) => {}
-            Some(false) => return None,
-            None => {
-                self.bell.ring_for(line.line);
-                return None;
+        let line = self.lines.get(number)?;
+        let back = match line.wish() {
+            Wish::Connection(router) => {
+                let begun = TcpStream::connect(rt, router);
+                let back = line.begin(router, begun.map_err(|error| ConnectFault::of(&error)));
+                self.wake(line.line);
+                back
             }
-        }
-        let begun = TcpStream::connect(rt, line.router);
-        let back = line.begin(begun.map_err(|error| ConnectFault::of(&error)));
-        self.wake(line);
-        if line.is_wanted() != Some(false) {
-            self.bell.ring_for(line.line);
+            Wish::Nothing => return None,
+            Wish::Unknown => None,
+        };
+        if line.wish() != Wish::Nothing {
+            self.doorway.bell.ring_for(line.line);
         }
         back
     }
 
     /// Takes some connections. Whether there may be more of them.
-    fn accept_some(&mut self) -> bool {
+    fn accept_some<R: Wait>(&mut self, rt: &R) -> bool {
         for _taken in 0..MOST_TAKEN {
-            match self.listener.accept() {
-                Ok((stream, peer)) => {
+            match self.doorway.accept(rt) {
+                Some(Ok((stream, peer))) => {
                     self.note(false);
-                    self.receive(Arrival { stream, peer });
+                    self.receive(rt, Arrival { stream, peer });
                 }
-                Err(error) => {
+                Some(Err(error)) => {
                     if let Some(fails) = is_in_want(&error) {
                         self.note(fails);
                     }
@@ -211,15 +178,16 @@ impl Door {
                         _ => return false,
                     }
                 }
+                None => return false,
             }
         }
         true
     }
 
     /// Lets a connection that came wait for its first frame. Where it comes from no router, or too many wait, it is closed.
-    fn receive(&mut self, arrival: Arrival) {
+    fn receive<R: Wait>(&mut self, rt: &R, arrival: Arrival) {
         let peer = arrival.peer;
-        if place_behind(peer.ip(), &self.routers).is_none() {
+        if !self.doorway.routes(rt).has(peer.ip()) {
             self.notices.tell(Notice::NoRouter { peer });
             return;
         }
@@ -230,7 +198,7 @@ impl Door {
     }
 
     /// Looks at each connection that waits for its first frame, and at those whose calls are refused.
-    fn hear_callers(&mut self) {
+    fn hear_callers<R: Wait>(&mut self, rt: &R) {
         let count = self.callers.count();
         if count == 0 && self.refused.is_empty() {
             return;
@@ -239,7 +207,7 @@ impl Door {
         for _caller in 0..count {
             match self.callers.hear(self.poll.registry(), now) {
                 Heard::Nothing => {}
-                Heard::Call(arrival, call) => self.give(arrival, call),
+                Heard::Call(arrival, call) => self.give(rt, arrival, call),
                 Heard::Closed(notice) => self.notices.tell(notice),
             }
         }
@@ -247,37 +215,12 @@ impl Door {
     }
 
     /// Gives a connection to the line that takes its call, or where it opens with no call request, to a line behind its router. Where
-    /// there is none it is refused.
-    fn give(&mut self, arrival: Arrival, call: Option<RouterCall>) {
-        let mut left = Some(arrival);
-        let mut choice = Choice::NoFreeLine;
-        for _choice in 0..MOST_CHOICES {
-            let Some(arrival) = left else {
-                return;
-            };
-            choice = self.choose_for(&arrival, &call);
-            left = Some(arrival);
-            match choice {
-                Choice::Line(place) => left = self.hand(place, left),
-                Choice::NoFreeLine | Choice::NoCaller => break,
-            }
-        }
-        if let Some(arrival) = left {
-            self.refuse(arrival, call, choice.refusal());
-        }
-    }
-
-    /// Looks which line behind its router takes a connection.
-    fn choose_for(&mut self, arrival: &Arrival, call: &Option<RouterCall>) -> Choice {
-        let Some(place) = place_behind(arrival.peer.ip(), &self.routers) else {
-            return Choice::NoCaller;
-        };
-        match self.routers.get_mut(place) {
-            Some(behind) => {
-                behind.look();
-                behind.choice_of(arrival, call)
-            }
-            None => Choice::NoCaller,
+    /// there is none it is refused. Lines do not change their routers meanwhile.
+    fn give<R: Wait>(&mut self, rt: &R, arrival: Arrival, call: Option<RouterCall>) {
+        let given = self.doorway.routes(rt).give(arrival, &call);
+        match given {
+            Given::To(line) => self.wake(line),
+            Given::Refused(arrival, refusal) => self.refuse(arrival, call, refusal),
         }
     }
 
@@ -298,23 +241,9 @@ impl Door {
         }
     }
 
-    /// Hands a connection to the line in this place of those behind its router. It comes back where the line can't take it.
-    fn hand(&self, place: usize, arrival: Option<Arrival>) -> Option<Arrival> {
-        let arrival = arrival?;
-        let behind = place_behind(arrival.peer.ip(), &self.routers)?;
-        let line = self.routers.get(behind)?.line(place)?;
-        match line.hand(arrival) {
-            Ok(()) => {
-                self.wake(line);
-                None
-            }
-            Err(back) => Some(back),
-        }
-    }
-
     /// Wakes the thread of a line.
-    fn wake(&self, line: &RouterLine) {
-        if let Some(waker) = self.wakers.get(line.line as usize) {
+    fn wake(&self, line: LineNo) {
+        if let Some(waker) = self.wakers.get(line as usize) {
             waker.mark_work();
             waker.wake_if_asleep();
         }

@@ -28,6 +28,8 @@ pub enum DownReason {
     /// The exchange has given it up: the line was out of service, since it did not take its packets as fast as they came, the exchange
     /// ends, memory is wanting, or how the call was cleared can't be told.
     GivenUp,
+    /// Other subscriptions came into force: the line is gone, or is connected in another way.
+    Reload,
 }
 
 impl DownReason {
@@ -75,6 +77,7 @@ impl fmt::Display for DownReason {
             DownReason::Length(length) => write!(f, "no frame of RFC 1613 (length {length} found)"),
             DownReason::Replaced => f.write_str("replaced by another connection"),
             DownReason::GivenUp => f.write_str("given up by the exchange"),
+            DownReason::Reload => f.write_str("ended by a reload"),
         }
     }
 }

@@ -5,76 +5,77 @@ ghost use Rattle.std.specs.Prelude.{◌≡◌, IfOk, map};
 ghost use Rattle.xp_door.specs.steps.Choices.{IsGiven, candidate_of};
 
 use crate::choosing::{Candidate, Choice, choose, line_for};
-use crate::hosts::is_same_host;
+use crate::routed_line::RoutedLine;
 use crate::router_call::RouterCall;
 use crate::router_line::{Arrival, RouterLine};
 use std::alloc::{AllocError, Global};
 use std::net::IpAddr;
 use std::sync::Arc;
+use xp_causes::Refusal;
+use xp_subs::LineNo;
+
+/// How often a line is chosen for a connection at most, where those that were chosen took another meanwhile.
+const MOST_CHOICES: usize = 16;
+
+/// What has become of a connection of a router.
+#[derive(Drop)]
+pub(crate) enum Given {
+    /// This line has it.
+    To(LineNo),
+    /// No line takes it, for this reason.
+    Refused(Arrival, Refusal),
+}
 
 /// The lines behind one router, in line order.
 #[derive(Drop)]
 pub(crate) struct LinesBehind {
     /// The address of the router. An IPv4-mapped IPv6 address stands as the IPv4 address in it.
-    router: IpAddr,
+    pub(crate) router: IpAddr,
     lines: Vec<Arc<RouterLine>>,
     /// The same lines as they were last looked at.
     candidates: Vec<Candidate>,
 }
 
-/// The lines behind each router, in the order of the routers' addresses.
-pub(crate) fn lines_by_router(
-    alloc: Global,
-    lines: &[Arc<RouterLine>],
-) -> Result<Vec<LinesBehind>, AllocError> {
-    let mut sorted = clones_of(alloc, lines)?;
-    sorted.sort_by_key(|line| line.router.ip().to_canonical())?;
-    let mut routers = Vec::new(alloc);
-    for lines in sorted.chunk_by(|one, other| is_same_host(one.router.ip(), other.router.ip())) {
-        if let Some(first) = lines.first() {
-            routers.push(LinesBehind::new(alloc, first.router.ip(), lines)?)?;
-        }
-    }
-    Ok(routers)
-}
-
-/// The place of the lines that are behind the router with this address. `None` where there are none.
-pub(crate) fn place_behind(router: IpAddr, routers: &[LinesBehind]) -> Option<usize> {
-    let router = router.to_canonical();
-    routers
-        .binary_search_by_key(&router, |behind| behind.router)
-        .ok()
-}
-
 impl LinesBehind {
     /// These lines, which are all behind this router.
-    fn new(
+    pub(crate) fn new(
         alloc: Global,
         router: IpAddr,
-        lines: &[Arc<RouterLine>],
+        lines: &[RoutedLine],
     ) -> Result<LinesBehind, AllocError> {
         Ok(LinesBehind {
             router: router.to_canonical(),
-            lines: clones_of(alloc, lines)?,
+            lines: lines_of(alloc, lines)?,
             candidates: candidates_of(alloc, lines)?,
         })
     }
 
-    /// The line in this place.
-    pub(crate) fn line(&self, place: usize) -> Option<&RouterLine> {
-        let line = self.lines.get(place)?;
-        Some(&**line)
+    /// Gives a connection to the line that takes its call, or where it opens with no call request, to the first that is free.
+    pub(crate) fn give(&mut self, arrival: Arrival, call: &Option<RouterCall>) -> Given {
+        let mut left = arrival;
+        for _choice in 0..MOST_CHOICES {
+            self.look();
+            let choice = self.choice_of(&left, call);
+            let Choice::Line(place) = choice else {
+                return Given::Refused(left, choice.refusal());
+            };
+            match self.hand(place, left) {
+                Ok(line) => return Given::To(line),
+                Err(back) => left = back,
+            }
+        }
+        Given::Refused(left, Refusal::NUMBER_BUSY)
     }
 
     /// Looks which lines are free.
-    pub(crate) fn look(&mut self) {
+    fn look(&mut self) {
         for (candidate, line) in self.candidates.iter_mut().zip(self.lines.iter()) {
             candidate.is_free = line.is_free();
         }
     }
 
     /// Which line takes a connection.
-    pub(crate) fn choice_of(&self, arrival: &Arrival, call: &Option<RouterCall>) -> Choice
+    fn choice_of(&self, arrival: &Arrival, call: &Option<RouterCall>) -> Choice
         ensures { IsGiven (socket_ip arrival.now.peer) call.now self.now.candidates.items result }
     {
         let candidates = self.candidates.as_slice();
@@ -86,20 +87,29 @@ impl LinesBehind {
             },
         }
     }
+
+    /// Hands a connection to the line in this place. It comes back where the line can't take it.
+    fn hand(&self, place: usize, arrival: Arrival) -> Result<LineNo, Arrival> {
+        let Some(line) = self.lines.get(place) else {
+            return Err(arrival);
+        };
+        line.hand(arrival)?;
+        Ok(line.line)
+    }
 }
 
-/// Further handles of the same lines.
-fn clones_of(alloc: Global, lines: &[Arc<RouterLine>]) -> Result<Vec<Arc<RouterLine>>, AllocError> {
+/// Further handles of the lines.
+fn lines_of(alloc: Global, lines: &[RoutedLine]) -> Result<Vec<Arc<RouterLine>>, AllocError> {
     let mut clones = Vec::with_capacity(alloc, lines.len())?;
     for line in lines {
-        clones.push(Arc::try_clone(line)?)?;
+        clones.push(Arc::try_clone(&line.line)?)?;
     }
     Ok(clones)
 }
 
 /// The lines as a connection's choice sees them, none of them free before they are looked at.
-fn candidates_of(alloc: Global, lines: &[Arc<RouterLine>]) -> Result<Vec<Candidate>, AllocError>
-    ensures { IfOk result (λ candidates. candidates.items ≡ map (λ line. candidate_of line.value) lines.now) }
+fn candidates_of(alloc: Global, lines: &[RoutedLine]) -> Result<Vec<Candidate>, AllocError>
+    ensures { IfOk result (λ candidates. candidates.items ≡ map candidate_of lines.now) }
 {
     let mut candidates = Vec::with_capacity(alloc, lines.len())?;
     for line in lines {

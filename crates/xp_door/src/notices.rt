@@ -234,6 +234,13 @@ impl Notices {
         }
     }
 
+    /// The line with this number is gone, and another one may take the number.
+    pub(crate) fn line_goes(&self, line: LineNo) {
+        if let Some(trace) = &self.trace {
+            trace.line_goes(line);
+        }
+    }
+
     /// How many octets the connections of all lines have received so far, and how many they have sent.
     pub fn traffic(&self) -> (u64, u64) {
         self.traffic.sums()

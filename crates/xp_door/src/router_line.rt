@@ -1,10 +1,10 @@
 //! What the door and the thread of a line behind a router tell each other.
 
-ghost use Rattle.std.specs.Prelude.{◌≡◌, IfOk};
 ghost use Rattle.std.specs.Net.Socket.{socket_ip};
+ghost use Rattle.std.specs.Prelude.{◌≡◌, OnOk, Some};
+ghost use Rattle.std.specs.declared.net.socket_addr.SocketAddr.{SocketAddr as Address};
 ghost use Rattle.xp_door.specs.Hosts.{IsSameHost};
 
-use crate::choosing::Caller;
 use crate::connect_fault::ConnectFault;
 use crate::door_bell::DoorBell;
 use crate::hosts::is_same_host;
@@ -14,7 +14,7 @@ use std::mem;
 use std::net::SocketAddr;
 use std::sync::atomic::AtomicBool;
 use std::sync::atomic::Ordering::SeqCst;
-use std::sync::{Arc, Mutex};
+use std::sync::{Arc, Mutex, Wait};
 use xp_subs::LineNo;
 
 /// A connection that a router has made.
@@ -54,74 +54,128 @@ pub enum Attempt {
     Failed(ConnectFault),
 }
 
-/// A line behind a router, as the door and the line's thread share it. Each of them holds its lock for moments.
+/// What the door has to do for a line.
+#[derive(Clone, Copy, PartialEq)]
+pub(crate) enum Wish {
+    /// To begin a connection to this router.
+    Connection(SocketAddr),
+    /// Nothing.
+    Nothing,
+    /// That can't be told now.
+    Unknown,
+}
+
+/// The router that a line is behind, if it is behind one, and what the line has of it.
+#[derive(Drop)]
+struct RouterSide {
+    /// Where the router takes connections. It makes its own from this address, and any port.
+    router: Option<SocketAddr>,
+    stage: Stage,
+}
+
+impl RouterSide {
+    /// Takes a connection of the line's router. It comes back where it is from another address, or the line is not free.
+    fn hand(&mut self, arrival: Arrival) -> Result<(), Arrival>
+        ensures { OnOk result ((router : Address) × (self.old.router ≡ Some router) × IsSameHost (socket_ip router) (socket_ip arrival.peer)) }
+    {
+        let Some(router) = self.router else {
+            return Err(arrival);
+        };
+        if !is_same_host(router.ip(), arrival.peer.ip()) || !matches!(self.stage, Stage::Free) {
+            return Err(arrival);
+        }
+        self.stage = Stage::Handed(arrival);
+        Ok(())
+    }
+
+    /// Lets go what the line has of its router, unless its thread has ended, and puts it behind this one.
+    fn renew(&mut self, router: Option<SocketAddr>)
+        ensures { self.new.router ≡ router }
+    {
+        self.router = router;
+        if !matches!(self.stage, Stage::Closed) {
+            self.stage = Stage::Free;
+        }
+    }
+}
+
+/// A line as the door, the line's thread and whoever gives it a router share it. Each of them holds its lock for moments.
 #[derive(Drop)]
 pub struct RouterLine {
     pub line: LineNo,
-    /// Where the router takes connections. It makes its own from this address, and any port.
-    pub router: SocketAddr,
-    /// What the calls of the router are matched with.
-    pub caller: Caller,
-    stage: Mutex<Stage>,
+    side: Mutex<RouterSide>,
+    /// The door gives it no connection for now.
+    is_held: AtomicBool,
     /// Whether the line's last link went before it was used.
     was_unused: AtomicBool,
     bell: Option<Arc<DoorBell>>,
 }
 
 impl RouterLine {
-    /// A line without a connection, whose thread rings this bell.
-    pub fn new(
-        line: LineNo,
-        router: SocketAddr,
-        caller: Caller,
-        bell: Option<Arc<DoorBell>>,
-    ) -> RouterLine
-        ensures { (result.line ≡ line) × (result.router ≡ router) × (result.caller ≡ caller) }
+    /// A line behind this router, if it is behind one, without a connection. Its thread rings this bell.
+    pub fn new(line: LineNo, router: Option<SocketAddr>, bell: Option<Arc<DoorBell>>) -> RouterLine
+        ensures { result.line ≡ line }
     {
         RouterLine {
             line,
-            router,
-            caller,
-            stage: Mutex::new(Stage::Free),
+            side: Mutex::new(RouterSide {
+                router,
+                stage: Stage::Free,
+            }),
+            is_held: AtomicBool::new(false),
             was_unused: AtomicBool::new(false),
             bell,
         }
     }
 
-    /// Whether the line has no connection, and waits for none.
+    /// Whether it is behind a router. False where that can't be told now.
+    pub fn is_behind(&self) -> bool {
+        match hold(&self.side) {
+            Some(side) => side.router.is_some(),
+            None => false,
+        }
+    }
+
+    /// Holds the line, so that the door gives it no connection, or lets that go on.
+    pub fn hold(&self, is_held: bool) {
+        self.is_held.store(is_held, SeqCst);
+    }
+
+    /// Puts the line behind this router, if there is one, and closes what it had of the one before.
+    pub fn renew<R: Wait>(&self, rt: &R, router: Option<SocketAddr>) {
+        self.side.lock(rt).renew(router);
+        self.was_unused.store(false, SeqCst);
+    }
+
+    /// Whether the line has no connection, waits for none, and is not held.
     pub fn is_free(&self) -> bool {
-        match hold(&self.stage) {
-            Some(stage) => matches!(*stage, Stage::Free),
+        if self.is_held.load(SeqCst) {
+            return false;
+        }
+        match hold(&self.side) {
+            Some(side) => matches!(side.stage, Stage::Free),
             None => false,
         }
     }
 
     /// Gives the line a connection of its router. It comes back where it is from another address, or the line is not free.
-    pub fn hand(&self, arrival: Arrival) -> Result<(), Arrival>
-        ensures { IfOk result (λ _. IsSameHost (socket_ip self.now.router) (socket_ip arrival.peer)) }
-    {
-        if !is_same_host(self.router.ip(), arrival.peer.ip()) {
-            return Err(arrival);
-        }
-        match hold(&self.stage) {
-            Some(mut stage) if matches!(*stage, Stage::Free) => {
-                *stage = Stage::Handed(arrival);
-                Ok(())
-            }
+    pub fn hand(&self, arrival: Arrival) -> Result<(), Arrival> {
+        match hold(&self.side) {
+            Some(mut side) if !self.is_held.load(SeqCst) => side.hand(arrival),
             _ => Err(arrival),
         }
     }
 
     /// Takes the connection that the door has given to the line, which has none. From now on it has that one.
     pub fn take_handed(&self) -> Option<Arrival> {
-        let mut stage = hold(&self.stage)?;
-        match mem::replace(&mut *stage, Stage::Free) {
+        let mut side = hold(&self.side)?;
+        match mem::replace(&mut side.stage, Stage::Free) {
             Stage::Handed(arrival) => {
-                *stage = Stage::Busy;
+                side.stage = Stage::Busy;
                 Some(arrival)
             }
             Stage::Closed => {
-                *stage = Stage::Closed;
+                side.stage = Stage::Closed;
                 None
             }
             _ => None,
@@ -131,15 +185,15 @@ impl RouterLine {
     /// Asks the door for a connection to the router. A connection of the router that the line was given, this one or another that
     /// its thread has not taken, goes back to the door. False where the line has to ask again.
     pub fn want(&self, back: Option<Arrival>) -> bool {
-        let Some(mut stage) = hold(&self.stage) else {
+        let Some(mut side) = hold(&self.side) else {
             return false;
         };
-        let back = match mem::replace(&mut *stage, Stage::Free) {
+        let back = match mem::replace(&mut side.stage, Stage::Free) {
             Stage::Handed(arrival) => Some(arrival),
             _ => back,
         };
-        *stage = Stage::Wanted(back);
-        drop(stage);
+        side.stage = Stage::Wanted(back);
+        drop(side);
         if let Some(bell) = &self.bell {
             bell.ring_for(self.line);
         }
@@ -148,39 +202,51 @@ impl RouterLine {
 
     /// Takes the connection that the line's thread waits for.
     pub fn take_begun(&self) -> Attempt {
-        let Some(mut stage) = hold(&self.stage) else {
+        let Some(mut side) = hold(&self.side) else {
             return Attempt::Waits;
         };
-        match mem::replace(&mut *stage, Stage::Busy) {
+        match mem::replace(&mut side.stage, Stage::Busy) {
             Stage::Begun(stream) => Attempt::Begun(stream),
             Stage::Failed(reason) => Attempt::Failed(reason),
             other => {
-                *stage = other;
+                side.stage = other;
                 Attempt::Waits
             }
         }
     }
 
-    /// Whether the line's thread waits for a connection that is not begun. `None` where that can't be told now.
-    pub fn is_wanted(&self) -> Option<bool> {
-        let stage = hold(&self.stage)?;
-        Some(matches!(*stage, Stage::Wanted(_)))
+    /// What the door has to do: the line's thread may wait for a connection that is not begun.
+    pub(crate) fn wish(&self) -> Wish {
+        let Some(side) = hold(&self.side) else {
+            return Wish::Unknown;
+        };
+        match (&side.stage, side.router) {
+            (Stage::Wanted(_), Some(router)) => Wish::Connection(router),
+            _ => Wish::Nothing,
+        }
     }
 
-    /// Gives the line's thread the connection to the router that it waits for, or why none could be begun. Where it waits no more
-    /// the connection is closed. A connection of the router comes back that the line can't take.
-    pub fn begin(&self, begun: Result<TcpStream, ConnectFault>) -> Option<Arrival> {
-        let mut stage = hold(&self.stage)?;
-        match mem::replace(&mut *stage, Stage::Free) {
+    /// Gives the line's thread the connection to this router that it waits for, or why none could be begun. Where it waits no more, or is
+    /// behind another router, the connection is closed. A connection of the router comes back that the line can't take.
+    pub(crate) fn begin(
+        &self,
+        router: SocketAddr,
+        begun: Result<TcpStream, ConnectFault>,
+    ) -> Option<Arrival> {
+        let mut side = hold(&self.side)?;
+        if side.router != Some(router) {
+            return None;
+        }
+        match mem::replace(&mut side.stage, Stage::Free) {
             Stage::Wanted(back) => {
-                *stage = match begun {
+                side.stage = match begun {
                     Ok(stream) => Stage::Begun(stream),
                     Err(reason) => Stage::Failed(reason),
                 };
                 back
             }
             other => {
-                *stage = other;
+                side.stage = other;
                 None
             }
         }
@@ -188,10 +254,10 @@ impl RouterLine {
 
     /// The line has no connection any more, and waits for none. One of the router that it had to give back is given to it again.
     pub fn release(&self) {
-        let Some(mut stage) = hold(&self.stage) else {
+        let Some(mut side) = hold(&self.side) else {
             return;
         };
-        *stage = match mem::replace(&mut *stage, Stage::Free) {
+        side.stage = match mem::replace(&mut side.stage, Stage::Free) {
             Stage::Handed(arrival) | Stage::Wanted(Some(arrival)) => Stage::Handed(arrival),
             Stage::Closed => Stage::Closed,
             _ => Stage::Free,
@@ -200,8 +266,8 @@ impl RouterLine {
 
     /// The line's thread has ended: connections are closed as they come.
     pub fn close(&self) {
-        if let Some(mut stage) = hold(&self.stage) {
-            *stage = Stage::Closed;
+        if let Some(mut side) = hold(&self.side) {
+            side.stage = Stage::Closed;
         }
     }
 

@@ -2,6 +2,7 @@
 
 ghost use Rattle.std.specs.Prelude.{◌≡◌, IfOk};
 
+use crate::down_reason::DownReason;
 use crate::notices::{Notice, Notices};
 use crate::tap::Tap;
 use crate::wakers::LineWaker;
@@ -63,5 +64,35 @@ impl LineShare {
     /// Tells a notice.
     pub fn tell(&self, notice: Notice) {
         self.notices.tell(notice);
+    }
+
+    /// Tells by a notice that the line has a connection.
+    pub fn tell_up(&self, notice: Notice) {
+        if let Some(waker) = self.waker() {
+            waker.note_told();
+        }
+        self.notices.tell(notice);
+    }
+
+    /// Tells by a notice that the line has no connection any more, unless that was told already.
+    pub fn tell_down(&self, notice: Notice) {
+        if self.forget_up() {
+            self.notices.tell(notice);
+        }
+    }
+
+    /// The line is gone, and another one may take its number. Where it has a connection that was told, this tells its end.
+    pub fn line_goes(&self) {
+        let line = self.line;
+        self.tell_down(Notice::Down {
+            line,
+            reason: DownReason::Reload,
+        });
+        self.notices.line_goes(line);
+    }
+
+    /// The line has no connection any more, which is not told. Whether it was told that it has one.
+    pub fn forget_up(&self) -> bool {
+        self.waker().is_some_and(|waker| waker.take_told())
     }
 }

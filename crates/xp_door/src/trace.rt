@@ -16,6 +16,8 @@ pub struct Trace {
     lines: TracedLines,
     /// How many connections each line has had.
     connections: Vec<AtomicU32>,
+    /// Whether another line has taken the number of each, or none has it any more.
+    are_gone: Vec<AtomicBool>,
     waiting: Mutex<WaitingPieces>,
     /// How many octets were left out.
     left_out: AtomicU64,
@@ -26,12 +28,15 @@ impl Trace {
     /// The trace of these lines, of so many that there are.
     pub fn new(alloc: Global, lines: TracedLines, count: usize) -> Result<Trace, AllocError> {
         let mut connections = Vec::with_capacity(alloc, count)?;
+        let mut are_gone = Vec::with_capacity(alloc, count)?;
         for _line in 0..count {
             connections.push(AtomicU32::new(0))?;
+            are_gone.push(AtomicBool::new(false))?;
         }
         Ok(Trace {
             lines,
             connections,
+            are_gone,
             waiting: Mutex::new(WaitingPieces::new(alloc)?),
             left_out: AtomicU64::new(0),
             is_stopped: AtomicBool::new(false),
@@ -40,11 +45,27 @@ impl Trace {
 
     /// The number of a line's next connection. `None` where the line is not traced, or no line is any more.
     pub(crate) fn next_connection(&self, line: LineNo) -> Option<u32> {
-        if self.is_stopped() || !self.lines.includes(line) {
+        if self.is_stopped() || !self.lines.includes(line) || self.is_gone(line) {
             return None;
         }
         let connections = self.connections.get(usize::from(line))?;
         Some(connections.fetch_add(1, SeqCst))
+    }
+
+    /// The line with this number is gone: where lines were named to be traced, another one that takes the number is not.
+    pub(crate) fn line_goes(&self, line: LineNo) {
+        if let TracedLines::Named(_) = &self.lines {
+            if let Some(is_gone) = self.are_gone.get(usize::from(line)) {
+                is_gone.store(true, SeqCst);
+            }
+        }
+    }
+
+    fn is_gone(&self, line: LineNo) -> bool {
+        match self.are_gone.get(usize::from(line)) {
+            Some(is_gone) => is_gone.load(SeqCst),
+            None => true,
+        }
     }
 
     /// Puts a piece behind those that wait. Whether it could: there was room, and no other threads kept the pieces for too long.

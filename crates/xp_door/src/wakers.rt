@@ -66,6 +66,8 @@ pub struct LineWaker {
     emptied: AtomicBool,
     /// Connections may have come to the line's own port.
     knocked: AtomicBool,
+    /// It was told that the line has a connection, and not yet that it has none.
+    is_told: AtomicBool,
 }
 
 impl LineWaker {
@@ -79,6 +81,7 @@ impl LineWaker {
             busy: AtomicBool::new(true),
             emptied: AtomicBool::new(false),
             knocked: AtomicBool::new(false),
+            is_told: AtomicBool::new(false),
         }
     }
 
@@ -144,6 +147,16 @@ impl LineWaker {
     /// before this.
     pub fn take_knock(&self) -> bool {
         self.knocked.load(SeqCst) && self.knocked.swap(false, SeqCst)
+    }
+
+    /// It is told that the line has a connection.
+    pub(crate) fn note_told(&self) {
+        self.is_told.store(true, SeqCst);
+    }
+
+    /// Whether it was told that the line has a connection. From now on it is told that it has none.
+    pub(crate) fn take_told(&self) -> bool {
+        self.is_told.swap(false, SeqCst)
     }
 }
 

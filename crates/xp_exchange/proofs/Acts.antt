@@ -9,11 +9,11 @@ use Rattle.xp_step.specs.Run.{RunFrom}
 use Rattle.xp_machine.specs.World.{World}
 use Rattle.xp_script.specs.Text.{entry_text}
 use Rattle.xp_exchange.specs.steps.Acting.{ActsOnFirst}
-use Rattle.xp_exchange.specs.Play.{ActsOn}
+use Rattle.xp_exchange.specs.Play.{ActsOn, force_in}
 use Rattle.xp_exchange.specs.WholeScript.{IsWritten}
 
 module _ {A : Type 0} where
-  run_both : (tables : Tables) (before : List (Entry A)) (world : World) (entries : List (Entry A)) (between : World) (more : List (Entry A)) (last : World)
+  pub run_both : (tables : Tables) (before : List (Entry A)) (world : World) (entries : List (Entry A)) (between : World) (more : List (Entry A)) (last : World)
       → RunFrom tables before world entries between → RunFrom tables (before ++ entries) between more last → RunFrom tables before world (entries ++ more) last
   run_both tables before world [] between more last same run =
       let P : World → Type 0 = λ from. RunFrom tables before from more last in
@@ -31,7 +31,7 @@ module _ {A : Type 0} where
   acts_on_nothing old = record { entries = []; run = refl; of_events = refl; history = sym (append-nil old.history); subs = refl; room = inl refl }
 
   -- room for the last is room for all
-  room_both : (old between new : Exchange A) (events more : List (Event A)) (first : ActsOn old events between) (second : ActsOn between more new)
+  pub room_both : (old between new : Exchange A) (events more : List (Event A)) (first : ActsOn old events between) (second : ActsOn between more new)
       → (first.entries ++ second.entries ≡ []) ⊎ (length new.history + 3 ≤ old.subs.journal)
   room_both old between new events more first second = elim second.room [
     | inr enough ↦ inr (subst (λ tables. length new.history + 3 ≤ tables.journal) first.subs enough)
@@ -41,7 +41,7 @@ module _ {A : Type 0} where
     ]
   ]
 
-  pub acts_on_both : (old between new : Exchange A) (events more : List (Event A)) → ActsOn old events between → ActsOn between more new → ActsOn old (events ++ more) new
+  abbrev pub acts_on_both : (old between new : Exchange A) (events more : List (Event A)) → ActsOn old events between → ActsOn between more new → ActsOn old (events ++ more) new
   acts_on_both old between new events more first second =
       let P : Tables → Type 0 = λ tables. RunFrom tables between.history (world_of between) second.entries (world_of new) in
       let Q : List (Entry A) → Type 0 = λ front. RunFrom old.subs front (world_of between) second.entries (world_of new) in
@@ -69,11 +69,11 @@ module _ {A : Type 0} where
   }
 
   -- what is told of it is the text of its entry
-  pub told_one : (old : Exchange A) (event : Event A) (new : Exchange A) (entry : Entry A) (advances : Advances old event new entry) → IsWritten old new (entry_text old.subs entry)
+  pub told_one : (old : Exchange A) (event : Event A) (new : Exchange A) (entry : Entry A) (advances : Advances old event new entry) → IsWritten old new (entry_text (force_in old) entry)
   told_one old event new entry advances = record {
     entries = entry ∷ [];
     history = advances.history;
-    text_is = sym (append-nil (entry_text old.subs entry));
+    text_is = sym (append-nil (entry_text (force_in old) entry));
   }
 
   pub first_of_all : (old now : Exchange A) (events : List (Event A)) → ActsOn old events now → ActsOnFirst old events now

@@ -1,4 +1,5 @@
 pub mod Acts
+pub mod Force
 pub mod Heard
 pub mod Idle
 pub mod Lines

@@ -1,7 +1,7 @@
 -- Lines that are played one after the other.
 use Rattle.std.proofs.Common.{◌≡◌, ℕ, ◌+◌, List, [], ◌∷◌, ◌++◌, length, refl, sym, ap, ◌∙◌, append_assoc, append-nil, subst, arith, Option, Some, Ok, Err, inl, inr}
 use Rattle.xp_exchange.specs.declared.fault.ReplayFault.{ReplayFault}
-use Rattle.xp_exchange.specs.declared.fault.ReplayFault.TheVariants.{Script, Journal, Memory, Read, Write, Reload}
+use Rattle.xp_exchange.specs.declared.fault.ReplayFault.TheVariants.{Script, Journal, Memory, Read, Write, Lay, Reload}
 use Rattle.xp_exchange.specs.Play.{PlayState, PlaysAll}
 use Rattle.xp_exchange.specs.steps.Playing.{Played}
 use Rattle.xp_exchange.specs.steps.Replaying.{Progress, TakesIn, Overflows}
@@ -70,12 +70,13 @@ module _ {A : Type 0} where
   stops_at : (fault : ReplayFault) (at new : PlayState A) (line more : List ℕ) (left : Option (List ℕ)) (number there : ℕ) (own : List ℕ) → number ≡ there
       → EndsLine more → Played at number line (Err fault) new own → StopsAt at line more there fault left new.exchange own
   stops_at (Script found) at new line more left number there own here over played = (played.0 ∙ here, inl (over, played.1), played.2)
-  stops_at Journal at new line more left number there own here over played = (record { over = over; begun = played.0 }, played.1, played.2, played.3)
+  stops_at Journal at new line more left number there own here over played = (record { over = over; begun = played.0 }, played.1, played.2)
   stops_at Memory at new line more left number there own here over (inl before) = inl before
   stops_at Memory at new line more left number there own here over (inr within) = inr (record { over = over; begun = within.0 }, within.1)
   stops_at Write at new line more left number there own here over played = (record { over = over; begun = played.0 }, played.1)
   stops_at Read at new line more left number there own here over played = elim played [ ]
-  stops_at (Reload found tables why) at new line more left number there own here over played = (played.0 ∙ here, over, played.1, played.2)
+  stops_at (Lay found tables) at new line more left number there own here over played = (played.0 ∙ here, over, played.1, played.2, played.3)
+  stops_at (Reload found tables why) at new line more left number there own here over played = (played.0 ∙ here, over, played.1, played.2, played.3)
 
   -- what was read, and what follows
   onward : (old between : Progress A) (front more : List ℕ) (text : List ℕ) → (took : TakesIn old front between text)
@@ -140,6 +141,7 @@ module _ {A : Type 0} where
   took_overflows Journal old between front octets more left text took other clean over = elim over [ ]
   took_overflows Write old between front octets more left text took other clean over = elim over [ ]
   took_overflows Read old between front octets more left text took other clean over = elim over [ ]
+  took_overflows (Lay found tables) old between front octets more left text took other clean over = elim over [ ]
   took_overflows (Reload found tables why) old between front octets more left text took other clean over = elim over [ ]
 
   -- it can't be read on

@@ -4,72 +4,69 @@ use Rattle.std.specs.Io.KnownBytes.{Appends, Keeps}
 use Rattle.xp_step.specs.declared.event.Event.{Event}
 use Rattle.xp_step.specs.Exchange.{Exchange}
 use Rattle.xp_script.specs.declared.command.Command.{Command}
-use Rattle.xp_script.specs.Command.{reload_of, said}
-use Rattle.xp_script.specs.NamedText.{NamedText}
-use Rattle.xp_step.specs.declared.entry.Entry.{Entry}
+use Rattle.xp_script.specs.Command.{said}
 use Rattle.xp_exchange.specs.declared.fault.ReplayFault.{ReplayFault}
-use Rattle.xp_exchange.specs.declared.fault.ReplayFault.TheVariants.{Script, Journal, Memory, Read, Write, Reload}
+use Rattle.xp_exchange.specs.declared.fault.ReplayFault.TheVariants.{Script, Journal, Memory, Read, Write, Lay, Reload}
 use Rattle.xp_exchange.specs.steps.Acting.{Acted, ActsOnFirst}
-use Rattle.xp_exchange.specs.Play.{Brings, PlayState, Plays, BeginsLine, ReadsLine, RefusesLine, moment_after}
+use Rattle.xp_exchange.specs.Play.{BeginsLine, LacksPlaces, PlayState, Plays, ReadsLine, RefusesLine, force_in, moment_after}
 use Rattle.xp_exchange.specs.WholeScript.{IsWritten}
 use Rattle.xp_exchange.specs.steps.Playing.{Played}
 use Rattle.xp_writing.proofs.Bytes.{appends_kept}
 use Rattle.xp_exchange.proofs.Tellings.{told_nothing, told_whole}
 
 module _ {A : Type 0} where
-  -- a line that brings no tables brings none
-  pub brings_none : (named : List NamedText) (number : Option ℕ) (entries : List (Entry A)) → number ≡ None → Brings named number entries
-  brings_none named number entries none = subst (λ number. Brings named number entries) (sym none) tt
-
   abbrev begins : (old : PlayState A) (line : List ℕ) (command : Command A) (events : List (Event A)) (after : List (List ℕ)) (now : Exchange A)
-      → said old.exchange.subs old.named line ≡ Some command → reload_of command ≡ None → Plays old command events after
+      → said (force_in old.exchange) old.named line ≡ Some command → Plays old command events after None
       → ActsOnFirst old.exchange events now → BeginsLine old line now
-  begins old line command events after now says none plays acted = record {
+  begins old line command events after now says plays acted = record {
     command = command;
     says = says;
     events = events;
     after = after;
+    brought = None;
     plays = plays;
     first = acted.first;
     later = acted.later;
     in_order = acted.in_order;
     acts = acted.acts;
-    brings = brings_none old.named (reload_of command) acted.acts.entries none;
+    brings = tt;
   }
 
   -- what came of its events is what came of the line
   pub played : (result : Result (Unit {0}) ReplayFault) (old new : PlayState A) (number : ℕ) (line : List ℕ) (command : Command A) (events : List (Event A)) (text : List ℕ)
-      → said old.exchange.subs old.named line ≡ Some command → reload_of command ≡ None → Plays old command events new.unfinished → new.moment ≡ moment_after old.moment command
+      → said (force_in old.exchange) old.named line ≡ Some command → Plays old command events new.unfinished None → new.moment ≡ moment_after old.moment command
       → new.named ≡ old.named → Acted old.exchange events result new.exchange text → Played old number line result new text
-  played (Ok done) old new number line command events text says none plays then same acted = (
+  played (Ok done) old new number line command events text says plays then same acted = (
     record {
       command = command;
       says = says;
       events = events;
+      brought = None;
       plays = plays;
       moment = then;
       acts = acted.0;
-      brings = brings_none old.named (reload_of command) acted.0.entries none;
+      brings = tt;
       named = same;
     },
     acted.1,
   )
-  played (Err Journal) old new number line command events text says none plays then same acted =
-      (begins old line command events new.unfinished new.exchange says none plays acted.0, acted.1, acted.2, acted.3)
-  played (Err Memory) old new number line command events text says none plays then same acted =
-      inr (begins old line command events new.unfinished new.exchange says none plays acted.0, acted.1)
-  played (Err Write) old new number line command events text says none plays then same acted =
-      (begins old line command events new.unfinished new.exchange says none plays acted.0, acted.1)
-  played (Err (Script found)) old new number line command events text says none plays then same acted = elim acted [ ]
-  played (Err Read) old new number line command events text says none plays then same acted = elim acted [ ]
-  played (Err (Reload found tables why)) old new number line command events text says none plays then same acted = elim acted [ ]
+  played (Err Journal) old new number line command events text says plays then same acted =
+      (begins old line command events new.unfinished new.exchange says plays acted.0, acted.1, (acted.2, acted.3))
+  played (Err Memory) old new number line command events text says plays then same acted =
+      inr (begins old line command events new.unfinished new.exchange says plays acted.0, acted.1)
+  played (Err Write) old new number line command events text says plays then same acted =
+      (begins old line command events new.unfinished new.exchange says plays acted.0, acted.1)
+  played (Err (Script found)) old new number line command events text says plays then same acted = elim acted [ ]
+  played (Err Read) old new number line command events text says plays then same acted = elim acted [ ]
+  played (Err (Lay found tables)) old new number line command events text says plays then same acted = elim acted [ ]
+  played (Err (Reload found tables why)) old new number line command events text says plays then same acted = elim acted [ ]
 
   -- what came of its events is what came of the line that was read
   pub played_read : (result : Result (Unit {0}) ReplayFault) (old read new : PlayState A) (number : ℕ) (line : List ℕ) (events : List (Event A)) (text : List ℕ)
       → ReadsLine old line events read → new.unfinished ≡ read.unfinished → new.moment ≡ read.moment → new.named ≡ read.named
       → Acted read.exchange events result new.exchange text → Played old number line result new text
   played_read result old read new number line events text reads rest moment named acted =
-      played result old new number line reads.command events text reads.says reads.brings_none (subst (Plays old reads.command events) (sym rest) reads.plays) (moment ∙ reads.moment) (named ∙ reads.named)
+      played result old new number line reads.command events text reads.says (subst (λ unfinished. Plays old reads.command events unfinished None) (sym rest) reads.plays) (moment ∙ reads.moment) (named ∙ reads.named)
       (subst (λ exchange. Acted exchange events result new.exchange text) reads.exchange acted)
 
   -- a line that is not read
@@ -78,9 +75,10 @@ module _ {A : Type 0} where
   not_read (Script found) old new number line refused same = (refused.0, refused.1, (same, refl))
   not_read Memory old new number line refused same = inl (same, refl)
   not_read Journal old new number line refused same =
-      subst (λ exchange. (begun : BeginsLine old line exchange) × IsWritten old.exchange exchange [] × (0 < length begun.later) × (exchange.subs.journal < length exchange.history + 4)) (sym same)
-      (refused.0, told_nothing old.exchange, refused.1, refused.2)
-  not_read (Reload found tables why) old new number line refused same = (refused.0, refused.1, (same, refl))
+      subst (λ exchange. (begun : BeginsLine old line exchange) × IsWritten old.exchange exchange [] × LacksPlaces begun.brought exchange begun.later) (sym same)
+      (refused.0, told_nothing old.exchange, refused.1)
+  not_read (Lay found tables) old new number line refused same = (refused.0, refused.1, refused.2, (same, refl))
+  not_read (Reload found tables why) old new number line refused same = (refused.0, refused.1, refused.2, (same, refl))
   not_read Read old new number line refused same = elim refused [ ]
   not_read Write old new number line refused same = elim refused [ ]
 
@@ -92,6 +90,7 @@ module _ {A : Type 0} where
       says = done.0.says;
       events = done.0.events;
       after = new.unfinished;
+      brought = done.0.brought;
       plays = done.0.plays;
       first = done.0.events;
       later = [];

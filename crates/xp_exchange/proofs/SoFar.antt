@@ -5,7 +5,7 @@ use Rattle.std.specs.Io.KnownBytes.{Appends}
 use Rattle.xp_step.specs.declared.event.Event.{Event}
 use Rattle.xp_step.specs.Exchange.{Exchange}
 use Rattle.xp_exchange.specs.declared.fault.ReplayFault.{ReplayFault}
-use Rattle.xp_exchange.specs.declared.fault.ReplayFault.TheVariants.{Script, Journal, Memory, Read, Write, Reload}
+use Rattle.xp_exchange.specs.declared.fault.ReplayFault.TheVariants.{Script, Journal, Memory, Read, Write, Lay, Reload}
 use Rattle.xp_exchange.specs.steps.Acting.{Acted, Breaks}
 use Rattle.xp_exchange.specs.FrameEvents.{Fits}
 use Rattle.xp_exchange.specs.Play.{ActsOn}
@@ -88,4 +88,5 @@ module _ {A : Type 0} where
       )
       go (Script number) breaks = elim breaks [ ]
       go Read breaks = elim breaks [ ]
+      go (Lay number tables) breaks = elim breaks [ ]
       go (Reload number tables why) breaks = elim breaks [ ]

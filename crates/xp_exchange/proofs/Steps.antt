@@ -1,6 +1,5 @@
 -- One step, and what is told of it.
 use Rattle.std.proofs.Common.{◌≡◌, ℕ, ◌+◌, ◌<◌, ◌≤◌, List, [], ◌∷◌, length, take, refl, sym, ap, ◌∙◌, subst, Option, Result, Ok, Err, inl, inr, arith}
-use Rattle.std.proofs.lemmas.Bool.{cases_lt}
 use Rattle.std.specs.Io.KnownBytes.{Appends}
 use Rattle.xp_charge.specs.declared.record.Record.{Record}
 use Rattle.xp_subs.specs.Tables.{Tables}
@@ -9,37 +8,26 @@ use Rattle.xp_step.specs.declared.event.Event.{Event}
 use Rattle.xp_step.specs.Exchange.{Exchange, Advances}
 use Rattle.xp_script.specs.Text.{entry_text}
 use Rattle.xp_exchange.specs.declared.fault.ReplayFault.{ReplayFault}
-use Rattle.xp_exchange.specs.declared.fault.ReplayFault.TheVariants.{Script, Journal, Memory, Read, Write, Reload}
+use Rattle.xp_exchange.specs.declared.fault.ReplayFault.TheVariants.{Script, Journal, Memory, Read, Write, Lay, Reload}
 use Rattle.xp_core.specs.declared.fault.StepFault.{StepFault}
 use Rattle.xp_core.specs.declared.fault.StepFault.TheVariants as steps
-use Rattle.xp_exchange.specs.Play.{ActsOn, Enters, RefusesEvent}
+use Rattle.xp_exchange.specs.Play.{ActsOn, Enters, RefusesEvent, force_in}
 use Rattle.xp_exchange.specs.WholeScript.{IsWritten}
 use Rattle.xp_exchange.specs.steps.Acting.{Tells, Acted, ActsOnFirst, reason}
 use Rattle.xp_exchange.proofs.Acts.{acts_on_one, first_of_all, first_of_none, told_one}
 use Rattle.xp_writing.proofs.Bytes.{appends_nothing}
 use Rattle.xp_exchange.proofs.Tellings.{told_nothing}
 
-abbrev IsAnswered : {X E : Type 0} → Result X E → Type 0
-IsAnswered (Ok x) = Unit {0}
-IsAnswered (Err e) = ⊥
-
--- what was answered found room
-pub found_room : {X E : Type 0} (result : Result X E) (x : X) (e : E) (count most : ℕ) → result ≡ Ok x → (most < count → result ≡ Err e) → count ≤ most
-found_room result x e count most ok full = elim (cases_lt most count) [
-  | inl less ↦ elim (subst IsAnswered (sym ok ∙ full less) tt) [ ]
-  | inr enough ↦ enough
-]
-
 module _ {A : Type 0} where
   pub told_step : (result : Result (Unit {0}) ReplayFault) (old new : Exchange A) (event : Event A) (entry : Entry A) (tables : Tables) (before after : Option (List ℕ))
-      → (advances : Advances old event new entry) → length old.history + 4 ≤ old.subs.journal → tables ≡ old.subs → Tells before after (entry_text tables entry) result
+      → (advances : Advances old event new entry) → length old.history + 4 ≤ old.subs.journal → tables ≡ force_in old → Tells before after (entry_text tables entry) result
       → (text : List ℕ) × Appends before after text × Acted old (event ∷ []) result new text
   told_step result old new event entry tables before after advances room same tells =
-      go result (subst (λ text. Tells before after text result) (ap (λ subs. entry_text subs entry) same) tells)
+      go result (subst (λ text. Tells before after text result) (ap (λ force. entry_text force entry) same) tells)
     where
-      go : (result : Result (Unit {0}) ReplayFault) → Tells before after (entry_text old.subs entry) result
+      go : (result : Result (Unit {0}) ReplayFault) → Tells before after (entry_text (force_in old) entry) result
           → (text : List ℕ) × Appends before after text × Acted old (event ∷ []) result new text
-      go (Ok done) tells = (entry_text old.subs entry, tells, (acts_on_one old event new entry advances room, told_one old event new entry advances))
+      go (Ok done) tells = (entry_text (force_in old) entry, tells, (acts_on_one old event new entry advances room, told_one old event new entry advances))
       go (Err Memory) tells = (
         [],
         tells,
@@ -49,16 +37,17 @@ module _ {A : Type 0} where
         ),
       )
       go (Err Write) tells = (
-        take tells.0 (entry_text old.subs entry),
+        take tells.0 (entry_text (force_in old) entry),
         tells.1,
         (
           first_of_all old new (event ∷ []) (acts_on_one old event new entry advances room),
-          record { whole = entry_text old.subs entry; told = told_one old event new entry advances; count = tells.0; front = refl },
+          record { whole = entry_text (force_in old) entry; told = told_one old event new entry advances; count = tells.0; front = refl },
         ),
       )
       go (Err Journal) tells = elim tells [ ]
       go (Err Read) tells = elim tells [ ]
       go (Err (Script number)) tells = elim tells [ ]
+      go (Err (Lay number which)) tells = elim tells [ ]
       go (Err (Reload number which why)) tells = elim tells [ ]
 
   -- What was acted on and written does not depend on which records wait.
@@ -90,18 +79,8 @@ module _ {A : Type 0} where
   )
   acted_alike (Err Read) old new events text given waiting acted = elim acted [ ]
   acted_alike (Err (Script number)) old new events text given waiting acted = elim acted [ ]
+  acted_alike (Err (Lay number which)) old new events text given waiting acted = elim acted [ ]
   acted_alike (Err (Reload number which why)) old new events text given waiting acted = elim acted [ ]
-
-  abbrev IsFull : StepFault A → Type 0
-  IsFull (steps.JournalFull event) = Unit {0}
-  IsFull (steps.Memory event) = ⊥
-
-  -- the history is full where want of memory is no answer
-  full_unless : (count most : ℕ) (event back : Event A) → (count ≤ most → steps.JournalFull back ≡ steps.Memory event) → most < count
-  full_unless count most event back memory = elim (cases_lt most count) [
-    | inl less ↦ less
-    | inr enough ↦ elim (subst IsFull (memory enough) tt) [ ]
-  ]
 
   -- One step, of whose records some may be handed over.
   pub entered : (old now new : Exchange A) (event : Event A) (entry : Entry A) (given waiting : List Record) → new ≡ record now { given = given; waiting = waiting }
@@ -112,33 +91,21 @@ module _ {A : Type 0} where
     history = advances.history;
   })
 
-  -- A refused step: why.
-  pub refused_event : (old : Exchange A) (event : Event A) (fault : StepFault A) (why : ReplayFault) → why ≡ reason fault
-      → (length old.history + 4 ≤ old.subs.journal → fault ≡ steps.Memory event) → RefusesEvent old why
-  refused_event old event fault why told memory = subst (RefusesEvent old) (sym told) (go fault memory)
-    where
-      go : (fault : StepFault A) → (length old.history + 4 ≤ old.subs.journal → fault ≡ steps.Memory event) → RefusesEvent old (reason fault)
-      go (steps.Memory back) memory = tt
-      go (steps.JournalFull back) memory = full_unless (length old.history + 4) old.subs.journal event back memory
-
   -- A refused step: the history is full, or memory was wanted.
-  pub stopped : (old new : Exchange A) (event : Event A) (known : Option (List ℕ)) (fault : StepFault A) (why : ReplayFault) → why ≡ reason fault → new ≡ old
-      → (length old.history + 4 ≤ old.subs.journal → fault ≡ steps.Memory event)
-      → (text : List ℕ) × Appends known known text × Acted old (event ∷ []) (Err why) new text
-  stopped old new event known fault why told same memory =
-      subst (λ reported. (text : List ℕ) × Appends known known text × Acted old (event ∷ []) (Err reported) new text) (sym told)
-      (subst (λ now. (text : List ℕ) × Appends known known text × Acted old (event ∷ []) (Err (reason fault)) now text) (sym same) (go fault memory))
+  pub stopped : (old new : Exchange A) (event : Event A) (known : Option (List ℕ)) (fault : ReplayFault) → RefusesEvent old fault → new ≡ old
+      → (text : List ℕ) × Appends known known text × Acted old (event ∷ []) (Err fault) new text
+  stopped old new event known fault refused same =
+      subst (λ now. (text : List ℕ) × Appends known known text × Acted old (event ∷ []) (Err fault) now text) (sym same) ([], appends_nothing known, go fault refused)
     where
-      go : (fault : StepFault A) → (length old.history + 4 ≤ old.subs.journal → fault ≡ steps.Memory event)
-          → (text : List ℕ) × Appends known known text × Acted old (event ∷ []) (Err (reason fault)) old text
-      go (steps.Memory back) memory = ([], appends_nothing known, (first_of_none old (event ∷ []), inl (omega arith, told_nothing old)))
-      go (steps.JournalFull back) memory = (
-        [],
-        appends_nothing known,
-        (
-          first_of_none old (event ∷ []),
-          told_nothing old,
-          omega arith,
-          full_unless (length old.history + 4) old.subs.journal event back memory,
-        ),
-      )
+      go : (fault : ReplayFault) → RefusesEvent old fault → Acted old (event ∷ []) (Err fault) old []
+      go Journal refused = (first_of_none old (event ∷ []), told_nothing old, omega arith, refused)
+      go Memory refused = (first_of_none old (event ∷ []), inl (omega arith, told_nothing old))
+      go Write refused = elim refused [ ]
+      go Read refused = elim refused [ ]
+      go (Script number) refused = elim refused [ ]
+      go (Lay number tables) refused = elim refused [ ]
+      go (Reload number tables why) refused = elim refused [ ]
+
+  -- a step that finds four places is refused for want of memory alone
+  pub refused_step : (old : Exchange A) (event : Event A) (fault : StepFault A) (why : ReplayFault) → why ≡ reason fault → fault ≡ steps.Memory event → RefusesEvent old why
+  refused_step old event fault why told memory = subst (RefusesEvent old) (sym (told ∙ ap reason memory)) tt

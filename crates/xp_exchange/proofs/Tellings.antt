@@ -1,11 +1,13 @@
 -- Texts of histories that grow.
 use Rattle.std.proofs.Common.{◌≡◌, ℕ, ◌+◌, List, [], ◌∷◌, ◌++◌, inl, inr, length, length-append, refl, sym, ap, ◌∙◌, append_assoc, append-nil, arith}
-use Rattle.std.proofs.lemmas.Grind.{flat_map-append}
 use Rattle.std.proofs.Math.Seq.{take-append-add, take-length}
 use Rattle.xp_step.specs.declared.event.Event.{Event}
 use Rattle.xp_step.specs.Exchange.{Exchange}
-use Rattle.xp_script.specs.Text.{entry_text, text_of}
+use Rattle.xp_script.specs.Text.{text_of}
+use Rattle.xp_step.specs.InForce.{in_force}
+use Rattle.xp_exchange.specs.Play.{force_in}
 use Rattle.xp_exchange.specs.WholeScript.{IsWritten, IsWrittenButLast, IsWrittenInPart, FindsNoMemory}
+use Rattle.xp_exchange.proofs.Force.{force_on, text_of-append}
 
 module _ {A : Type 0} where
   pub told_nothing : (old : Exchange A) → IsWritten old old []
@@ -13,12 +15,12 @@ module _ {A : Type 0} where
 
   pub outputs_to_both : (old between new : Exchange A) (one other : List ℕ) → between.subs ≡ old.subs → IsWritten old between one → IsWritten between new other → IsWritten old new (one ++ other)
   outputs_to_both old between new one other same first second =
-      let later : other ≡ text_of old.subs second.entries = second.text_is ∙ ap (λ subs. text_of subs second.entries) same in
+      let later : other ≡ text_of (in_force (force_in old) first.entries) second.entries = second.text_is ∙ ap (λ force. text_of force second.entries) (force_on old between first.entries same first.history) in
       record {
         entries = first.entries ++ second.entries;
         history = second.history ∙ ap (λ front. front ++ second.entries) first.history ∙ append_assoc old.history first.entries second.entries;
-        text_is = ap (λ front. front ++ other) first.text_is ∙ ap (λ rest. text_of old.subs first.entries ++ rest) later
-            ∙ sym (flat_map-append (entry_text old.subs) first.entries second.entries);
+        text_is = ap (λ front. front ++ other) first.text_is ∙ ap (λ rest. text_of (force_in old) first.entries ++ rest) later
+            ∙ sym (text_of-append (force_in old) first.entries second.entries);
       }
 
   pub told_in_part : (old between new : Exchange A) (one other : List ℕ) → between.subs ≡ old.subs → IsWritten old between one → IsWrittenInPart between new other → IsWrittenInPart old new (one ++ other)
@@ -38,8 +40,8 @@ module _ {A : Type 0} where
         ∙ append_assoc old.history first.entries (second.entries ++ second.last ∷ [])
         ∙ ap (λ rest. old.history ++ rest) (sym (append_assoc first.entries second.entries (second.last ∷ [])));
     text_is = ap (λ front. front ++ other) first.text_is
-        ∙ ap (λ rest. text_of old.subs first.entries ++ rest) (second.text_is ∙ ap (λ subs. text_of subs second.entries) same)
-        ∙ sym (flat_map-append (entry_text old.subs) first.entries second.entries);
+        ∙ ap (λ rest. text_of (force_in old) first.entries ++ rest) (second.text_is ∙ ap (λ force. text_of force second.entries) (force_on old between first.entries same first.history))
+        ∙ sym (text_of-append (force_in old) first.entries second.entries);
   }
 
   -- no memory is found in what follows, of which other events are left

@@ -1,5 +1,5 @@
 -- The events of octets that come in on a line: one for each frame, and that the line goes down at a bad header.
-use Rattle.std.specs.Prelude.{◌≡◌, ◌<◌, ℕ, List, [], ◌∷◌, ◌++◌, false}
+use Rattle.std.specs.Prelude.{◌≡◌, ◌<◌, ℕ, Bool, true, false, List, [], ◌∷◌, ◌++◌}
 use Rattle.xp_packets.specs.Examination.{IsMalformed}
 use Rattle.xp_packets.specs.Spelling.{Spells}
 use Rattle.xp_packets.specs.declared.modulus.Modulus.{Modulus}
@@ -7,15 +7,19 @@ use Rattle.xp_frames.specs.declared.fault.FrameFault.{FrameFault}
 use Rattle.xp_frames.specs.Frame.{Stream, BadHeader, HasNoBadHeader}
 use Rattle.xp_subs.specs.Tables.{Tables, line_count}
 use Rattle.xp_step.specs.Exchange.{IsReadable}
-use Rattle.xp_step.specs.Stalls.{is_raised}
 use Rattle.xp_step.specs.declared.event.Event.{Event}
 use Rattle.xp_step.specs.declared.event.What.{What}
 use Rattle.xp_step.specs.declared.event.What.TheVariants.{Up, Down, Frame, WrongFrame, Expire, Stall, Reload}
 
 module _ {A : Type 0} where
-  -- what a line can raise: a frame is one that can be read, and no line raises a stall or a reload
+  -- the event brings other tables
+  abbrev pub brings_tables : What A → Bool
+  brings_tables Reload = true
+  brings_tables what = false
+
+  -- what can happen on a line: a frame is one that can be read, and a reload is no line's
   abbrev pub CanCome : What A → Type 0
-  CanCome what = IsReadable what × (is_raised what ≡ false)
+  CanCome what = IsReadable what × (brings_tables what ≡ false)
 
   -- an event that the exchange of these subscriptions takes
   abbrev pub Fits : Tables → Event A → Type 0

@@ -9,8 +9,8 @@ use Rattle.xp_script.specs.Command.{said, longest}
 use Rattle.xp_script.specs.NamedText.{NamedText}
 use Rattle.xp_script.specs.Text.{text_of}
 use Rattle.xp_exchange.specs.declared.fault.ReplayFault.{ReplayFault}
-use Rattle.xp_exchange.specs.declared.fault.ReplayFault.TheVariants.{Script, Journal, Memory, Read, Write, Reload}
-use Rattle.xp_exchange.specs.Play.{PlayState, PlaysAll, BeginsLine, RefusesTables, opened, start}
+use Rattle.xp_exchange.specs.declared.fault.ReplayFault.TheVariants.{Script, Journal, Memory, Read, Write, Lay, Reload}
+use Rattle.xp_exchange.specs.Play.{AsksFor, BeginsLine, HasNoPlaces, IsRefusedText, LacksPlaces, PlayState, PlaysAll, force_in, opened, start}
 use Rattle.xp_exchange.specs.Splitting.{IsSplit, joined, HasNoFeed, EndsLine}
 
 -- The line is over and says nothing that a script may say, or what was read of it is too long already
@@ -22,14 +22,14 @@ module _ {A : Type 0} where
   pub record IsWritten (old new : Exchange A) (text : List ℕ) : Type 0 where
     pub entries : List (Entry A)
     pub history : new.history ≡ old.history ++ entries
-    pub text_is : text ≡ text_of old.subs entries
+    pub text_is : text ≡ text_of (force_in old) entries
 
   -- The same, but the text of the last entry is missing, and there is such an entry.
   pub record IsWrittenButLast (old new : Exchange A) (text : List ℕ) : Type 0 where
     pub entries : List (Entry A)
     pub last : Entry A
     pub history : new.history ≡ old.history ++ (entries ++ last ∷ [])
-    pub text_is : text ≡ text_of old.subs entries
+    pub text_is : text ≡ text_of (force_in old) entries
 
   -- The text is a prefix of that of all entries.
   pub record IsWrittenInPart (old new : Exchange A) (text : List ℕ) : Type 0 where
@@ -57,18 +57,20 @@ module _ {A : Type 0} where
   -- exchange afterwards, and what was written for this line
   abbrev pub StopsAt : PlayState A → List ℕ → List ℕ → ℕ → ReplayFault → Option (List ℕ) → Exchange A → List ℕ → Type 0
   StopsAt at line more number (Script found) left after own =
-      (found ≡ number) × IsFaulty A at.exchange.subs at.named line more × StopsBeforeLine at after own
+      (found ≡ number) × IsFaulty A (force_in at.exchange) at.named line more × StopsBeforeLine at after own
   StopsAt at line more number Read left after own = (left ≡ Some more) × StopsBeforeLine at after own
   StopsAt at line more number Memory left after own =
       StopsBeforeLine at after own
       ⊎ ((within : StopsWithinLine at line more after) × FindsNoMemory at.exchange within.begun.later after own)
   StopsAt at line more number Journal left after own =
       (within : StopsWithinLine at line more after) × IsWritten at.exchange after own
-      × (0 < length within.begun.later) × (after.subs.journal < length after.history + 4)
+      × LacksPlaces within.begun.brought after within.begun.later
   StopsAt at line more number Write left after own =
       StopsWithinLine at line more after × IsWrittenInPart at.exchange after own
+  StopsAt at line more number (Lay found tables) left after own =
+      (found ≡ number) × EndsLine more × AsksFor at line tables × HasNoPlaces at.exchange at.named tables × StopsBeforeLine at after own
   StopsAt at line more number (Reload found tables fault) left after own =
-      (found ≡ number) × EndsLine more × RefusesTables at line tables fault × StopsBeforeLine at after own
+      (found ≡ number) × EndsLine more × AsksFor at line tables × IsRefusedText at.exchange at.named tables fault × StopsBeforeLine at after own
 
   -- Whole lines were played, the first of this number, and all their text is written, whatever the fault.
   -- It stopped at the next line, of which `line` was read.

@@ -11,6 +11,9 @@ pub enum ReplayFault {
     /// The line of this number is not a line of a script. The first line has the number 1.
     #[error("script line {0}")]
     Script(u64),
+    /// The line of the first number brings the subscriptions of the second, and the exchange has no places for their lines.
+    #[error("script line {0}")]
+    Lay(u64, usize),
     /// The line of the first number brings the subscriptions of the second, and these cannot come into force for this reason.
     #[error("script line {0}")]
     Reload(u64, usize, ReloadFault),

@@ -4,14 +4,15 @@
 mod acting;
 mod fault;
 mod frames;
+mod next_tables;
 mod playing;
-mod reloaded;
+mod reloading;
 mod replaying;
 mod streams;
 mod writing;
 
 pub use fault::ReplayFault;
+pub use next_tables::NextTables;
 pub use playing::ScriptPlayer;
-pub use reloaded::Reloaded;
 pub use replaying::{Replayed, replay, replay_on};
 pub use writing::write_out;

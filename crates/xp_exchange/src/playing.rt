@@ -2,18 +2,20 @@
 
 ghost use Rattle.std.specs.Prelude.{◌≡◌, ◌+◌, ◌<◌, ◌^◌, ℕ, List, [], ◌∷◌, ◌++◌, All, IfErr, IfOk, None, OnErr, OnOk, length};
 ghost use Rattle.std.specs.Io.KnownBytes.{Appends};
+ghost use Rattle.xp_reload.specs.Frame.{IsSameFrame};
 ghost use Rattle.xp_step.specs.Exchange.{world_of};
 ghost use Rattle.xp_exchange.specs.FrameEvents.{CanCome, Fits};
-ghost use Rattle.xp_exchange.specs.Play.{Enters, LineRead, Plays, RefusesEvent, RefusesLine, event_of, is_off_at, moment_after};
+ghost use Rattle.xp_exchange.specs.Play.{ComesIntoForce, Enters, LineRead, MayCome, Plays, RefusesEvent, RefusesLine, event_of, force_in, is_off_at, moment_after};
 ghost use Rattle.xp_exchange.specs.steps.Playing.{Played, RefusesCommand};
 ghost use Rattle.xp_script.specs.Command.{HasLine, HasTables, reload_of, said};
 ghost use Rattle.xp_script.specs.Lines.{HasLines};
 ghost use Rattle.xp_script.specs.NamedText.{name_at};
 ghost use Rattle.xp_subs.specs.Tables.{line_count};
 
-use crate::acting::{act_on_all, enter, enter_reload, tell_reload};
+use crate::acting::{act_on_all, enter};
 use crate::fault::ReplayFault;
-use crate::reloaded::Reloaded;
+use crate::next_tables::NextTables;
+use crate::reloading::{bring, in_force, read_next};
 use crate::streams::Streams;
 use std::alloc::{AllocError, Allocator, Global};
 use std::collections::VecDeque;
@@ -84,11 +86,19 @@ impl<'s, 'n, A: Allocator + Copy> ScriptPlayer<'s, 'n, A> {
         }
     }
 
-    /// The subscriptions with which the exchange was opened.
-    pub fn subs(&self) -> &Subs
-        ensures { result.now ≡ self.now.exchange.subs }
+    /// The subscriptions in force. They have the frame of those with which the exchange was opened.
+    pub fn in_force(&self) -> &Subs
+        ensures force { result.now ≡ force_in self.now.exchange }
+        ensures frame { IsSameFrame self.now.exchange.subs result.now }
     {
-        self.core.subs()
+        in_force(&self.core)
+    }
+
+    /// The moment of the events that follow, in seconds.
+    pub fn moment(&self) -> u64
+        ensures { result ≡ self.now.moment }
+    {
+        self.moment
     }
 
     /// The name of the subscriptions with this number, among those that lines may bring into force.
@@ -108,22 +118,22 @@ impl<'s, 'n, A: Allocator + Copy> ScriptPlayer<'s, 'n, A> {
 
     /// Reads the line of this number, and fills the queue with its events. The exchange acts on none of them yet; it is to
     /// act on all before the next line is read. What the queue held is lost. Where the line brings subscriptions into force,
-    /// they are in force then, and what came of that is returned; such a line has no other event.
+    /// they are returned: they are to come into force behind the events, by which the lines that go are given up.
     ///
     /// # Errors
     ///
-    /// `Script`, with the number, if it is not a line of a script; `Reload`, with it, if the subscriptions that it brings
-    /// cannot come into force; `Journal` if fewer than four places of the history are left for that; `Memory` if no memory
+    /// `Script`, with the number, if it is not a line of a script; `Lay` or `Reload`, with it, if the subscriptions that it
+    /// brings cannot come into force; `Journal` if too few places of the history are left for that; `Memory` if no memory
     /// was left. The exchange is as it was.
     pub fn read_line(
         &mut self,
         number: u64,
         line: &[u8],
         events: &mut VecDeque<Event<A>, A>,
-    ) -> Result<Option<Reloaded<A>>, ReplayFault>
+    ) -> Result<Option<NextTables>, ReplayFault>
         ensures read { IfOk result (LineRead self.old line.now events.new.items self.new) }
         ensures refused { IfErr result (RefusesLine self.old number line.now) }
-        ensures subs { self.new.exchange.subs ≡ self.old.exchange.subs }
+        ensures same { self.new.exchange ≡ self.old.exchange }
     {
         let ScriptPlayer {
             alloc,
@@ -139,6 +149,15 @@ impl<'s, 'n, A: Allocator + Copy> ScriptPlayer<'s, 'n, A> {
         )
     }
 
+    /// Brings subscriptions into force, once the lines that go are given up.
+    pub fn bring(&mut self, next: NextTables)
+        requires { MayCome self.old.exchange next.subs }
+        ensures brought { ComesIntoForce self.old.exchange next.subs self.old.moment self.new.exchange }
+        ensures kept { self.new ≡ record self.old { exchange = self.new.exchange } }
+    {
+        bring(&mut self.core, next.subs, self.moment);
+    }
+
     /// Acts on an event, and returns its entry.
     ///
     /// # Errors
@@ -149,6 +168,7 @@ impl<'s, 'n, A: Allocator + Copy> ScriptPlayer<'s, 'n, A> {
         requires { Fits self.old.exchange.subs event }
         ensures ok { IfOk result (Enters self.old.exchange event self.new.exchange) }
         ensures lines { IfOk result (HasLines (line_count self.old.exchange.subs)) }
+        ensures plain { IfOk result (λ entry. entry.tables.items ≡ []) }
         ensures refused { IfErr result (RefusesEvent self.old.exchange) }
         ensures same { OnErr result (self.new ≡ self.old) }
         ensures kept { self.new ≡ record self.old { exchange = self.new.exchange } }
@@ -175,22 +195,24 @@ impl<'s, 'n, A: Allocator + Copy> ScriptPlayer<'s, 'n, A> {
             events,
             text,
         } = self;
-        match read_line(
+        let next = read_line(
             *alloc, core, streams, named, moment, octets, number, line, events,
-        )? {
-            Some(reloaded) => return tell_reload(core, &reloaded, octets, text, writer),
-            None => {}
-        }
-        act_on_all(core, events, octets, text, writer)
+        )?;
+        act_on_all(core, events, octets, text, writer)?;
+        let Some(next) = next else {
+            return Ok(());
+        };
+        bring(core, next.subs, *moment);
+        Ok(())
     }
 }
 
-/// Reads the line of this number, and fills the queue with its events, or brings subscriptions into force and returns what came
-/// of that. `memory` is for the octets that come in on a line. What it and the queue held is lost.
+/// Reads the line of this number, and fills the queue with its events. Returns the subscriptions that it brings into force, if it does.
+/// `memory` is for the octets that come in on a line. What it and the queue held is lost.
 #[inline(always)]
 fn read_line<A: Allocator + Copy>(
     alloc: A,
-    core: &mut Core<A>,
+    core: &Core<A>,
     streams: &mut Streams<A>,
     named: &[NamedTables<'_>],
     moment: &mut u64,
@@ -198,21 +220,16 @@ fn read_line<A: Allocator + Copy>(
     number: u64,
     line: &[u8],
     events: &mut VecDeque<Event<A>, A>,
-) -> Result<Option<Reloaded<A>>, ReplayFault>
-    requires lines { length streams.old ≡ line_count core.old.subs }
-    ensures read { IfOk result (LineRead (record { exchange = core.old; unfinished = streams.old; moment = moment.old; named = named.now }) line.now events.new.items (record { exchange = core.new; unfinished = streams.new; moment = moment.new; named = named.now })) }
-    ensures refused { IfErr result (RefusesLine (record { exchange = core.old; unfinished = streams.old; moment = moment.old; named = named.now }) number line.now) }
+) -> Result<Option<NextTables>, ReplayFault>
+    requires lines { length streams.old ≡ line_count core.now.subs }
+    ensures read { IfOk result (LineRead (record { exchange = core.now; unfinished = streams.old; moment = moment.old; named = named.now }) line.now events.new.items (record { exchange = core.now; unfinished = streams.new; moment = moment.new; named = named.now })) }
+    ensures refused { IfErr result (RefusesLine (record { exchange = core.now; unfinished = streams.old; moment = moment.old; named = named.now }) number line.now) }
     ensures lines { length streams.new ≡ length streams.old }
-    ensures same { OnErr result (core.new ≡ core.old) }
-    ensures subs { core.new.subs ≡ core.old.subs }
 {
-    let command = read_command(alloc, core.subs(), named, memory, number, line)?;
+    let command = read_command(alloc, in_force(core), named, memory, number, line)?;
     if let Some(tables) = command.reload() {
-        let entry = enter_reload(core, named, tables, *moment, number)?;
-        return Ok(Some(Reloaded {
-            number: tables,
-            entry,
-        }));
+        let next = read_next(core, named, tables, number, *moment, events)?;
+        return Ok(Some(next));
     }
     let next = moment_after(*moment, &command);
     read_events(core, streams, *moment, command, events, memory)?;
@@ -274,7 +291,7 @@ fn read_events<A: Allocator + Copy>(
     requires line { HasLine (line_count core.now.subs) command }
     requires brings_none { reload_of command ≡ None }
     requires lines { length streams.old ≡ line_count core.now.subs }
-    ensures plays { OnOk result (Plays (record { exchange = core.now; unfinished = streams.old; moment = moment; named = [] }) command events.new.items streams.new) }
+    ensures plays { OnOk result (Plays (record { exchange = core.now; unfinished = streams.old; moment = moment; named = [] }) command events.new.items streams.new None) }
     ensures fit { OnOk result (All (λ event. (event.line < line_count core.now.subs) × CanCome event.what) events.new.items) }
     ensures lines { length streams.new ≡ length streams.old }
 {

@@ -55,7 +55,7 @@ pub fn replay<A: Allocator + Copy, R: Read + Drop, W: Write>(
 
 /// Replays a script: plays its lines in turn to an exchange, and writes the text of what the exchange sends and records.
 /// It writes the text of a line before it plays the next. A line `tables NAME` brings the subscriptions of that name, among
-/// `named`, into force; it sends and records nothing.
+/// `named`, into force. Lines in service that go are given up before that, the lowest first, with all that this sends and records.
 ///
 /// # Errors
 ///
@@ -63,12 +63,13 @@ pub fn replay<A: Allocator + Copy, R: Read + Drop, W: Write>(
 /// What is done and written of the line itself depends on the error:
 ///
 /// - `Script`, with the number of the line: it is not a line of a script. Nothing of it is done or written.
-/// - `Reload`, with the number of the line: the subscriptions that it names cannot come into force now. Nothing of it is
+/// - `Lay` or `Reload`, with the number of the line: the subscriptions that it names cannot come into force now. Nothing of it is
 ///   done or written.
 /// - `Read`: the reader failed, or 1,000,000,000 reads did not end the script. Nothing is done or written of the line
 ///   whose end was not read.
-/// - `Journal`: the history has fewer than four places left for the next event of the line. The text of the events
-///   before that one is written whole.
+/// - `Journal`: the history has fewer than four places left for the next event of the line; where the line brings
+///   subscriptions into force, fewer than that and one for each line that goes. The text of the events before that one is
+///   written whole.
 /// - `Memory`: no memory was left, and one of three holds. Nothing of the line is done or written. Or the exchange
 ///   refused the next event of the line, and the text of the events before that one is written whole. Or the text of
 ///   the last entry could not be made: this entry is of the line, and no other text is missing.

@@ -5,7 +5,7 @@ use std::process::Abort;
 use std::test::Fail;
 use xp_core::{Core, ReloadFault};
 use xp_exchange::{Replayed, replay_on};
-use xp_reload::FrameChange;
+use xp_step::{Event, What};
 use xp_subs::Subs;
 
 /// Two stations. The second takes no calls.
@@ -82,8 +82,20 @@ fn reload<A: Allocator + Copy>(
     }
 }
 
+/// Gives the first line up.
+fn give_up<A: Allocator + Copy>(rt: &impl Abort, core: &mut Core<A>) {
+    let line = 0;
+    assert!(rt; usize::from(line) < core.subs().counts().lines);
+    let event = Event {
+        line,
+        moment: 7,
+        what: What::Stall,
+    };
+    assert!(rt; core.step(event).is_ok());
+}
+
 /// A call that is refused by the subscriptions with which the exchange was opened is put through by those in force. The address of a
-/// line does not change during its call, and its port never.
+/// line does not change during its call, and its port only once it was given up.
 #[test]
 fn calls_are_decided_by_the_subscriptions_in_force(rt: HostRuntime) -> Result<(), Fail> {
     let alloc = rt.alloc();
@@ -92,8 +104,10 @@ fn calls_are_decided_by_the_subscriptions_in_force(rt: HostRuntime) -> Result<()
     reload(&rt, &mut core, alloc, TAKING, None);
     let mut core = play(&rt, core, alloc, SECOND_CALL, "out b1 ");
     reload(&rt, &mut core, alloc, MOVED, Some(ReloadFault::InCall(1)));
-    let port = ReloadFault::Frame(FrameChange::Line(0));
-    reload(&rt, &mut core, alloc, AT_ANOTHER_PORT, Some(port));
-    assert_eq!(rt; core.count(), 6);
+    let served = ReloadFault::InService(0);
+    reload(&rt, &mut core, alloc, AT_ANOTHER_PORT, Some(served));
+    give_up(&rt, &mut core);
+    reload(&rt, &mut core, alloc, AT_ANOTHER_PORT, None);
+    assert_eq!(rt; core.count(), 8);
     Ok(())
 }

@@ -7,7 +7,7 @@ use xp_core::Core;
 use xp_exchange::{ReplayFault, Replayed, replay_on};
 use xp_machine::LineView;
 use xp_packets::{Modulus, decode};
-use xp_step::{Event, What};
+use xp_step::{Event, MOST_STALLS, What};
 use xp_subs::{LineNo, Subs};
 use xp_testing::Refusing;
 
@@ -131,8 +131,8 @@ fn stall_all<A: Allocator + Copy>(
     mut core: Core<A>,
     ample: A,
 ) -> Result<(), Fail> {
-    if core.reserve_stalls().is_err() {
-        core.reserve_stalls()?;
+    if core.reserve_stalls(MOST_STALLS).is_err() {
+        core.reserve_stalls(MOST_STALLS)?;
     }
     let mut core = played(rt, core, ample, DATA, &mut Vec::new(ample));
     for line in [2, 0, 1] {

@@ -1,7 +1,7 @@
 -- The content of the subscription file, table by table.
 use Rattle.std.specs.Prelude.{ℕ, ◌<◌, ◌≤◌, List, Bool, false, Option, All, IsTrue, length}
 use Rattle.xp_file.specs.declared.entry.Access.{Access}
-use Rattle.xp_file.specs.declared.entry.Access.TheVariants.{Port, Router}
+use Rattle.xp_file.specs.declared.entry.Access.TheVariants.{Port, Router, Spare}
 use Rattle.xp_file.specs.declared.entry.Facilities.{Facilities}
 use Rattle.xp_file.specs.declared.entry.GroupEntry.{GroupEntry}
 use Rattle.xp_file.specs.declared.entry.LineEntry.{LineEntry}
@@ -20,15 +20,17 @@ pub record StationData : Type 0 where
   pub groups : List GroupEntry
   pub redirect : Option Redirection
 
--- a valid port, or a valid router
+-- a valid port, or a valid router; a file has no spare line
 abbrev pub IsAccess : Access → Type 0
 IsAccess (Port port) = IsPort port
 IsAccess (Router router) = IsRouter router
+IsAccess Spare = ⊥
 
 -- a line is behind the router with this address, whatever port of the router the file names
 abbrev pub is_behind : List ℕ → Access → Bool
 is_behind address (Port port) = false
 is_behind address (Router router) = same router.address address
+is_behind address Spare = false
 
 -- the line has a valid name, a valid port or router, and at most 8 valid sources
 pub record IsLineEntry (line : LineEntry) : Type 0 where

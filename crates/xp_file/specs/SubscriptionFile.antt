@@ -22,7 +22,7 @@ use Rattle.xp_file.specs.Reading.{◌>>=◌, number_in, line_name_in, group_name
 
 -- the keys that each table may have
 abbrev pub top_keys : List Key
-top_keys = keys.SegmentLimit ∷ keys.Journal ∷ keys.Host ∷ keys.XotPort ∷ keys.Name ∷ keys.Station ∷ []
+top_keys = keys.SegmentLimit ∷ keys.Journal ∷ keys.Host ∷ keys.XotPort ∷ keys.Name ∷ keys.SpareLines ∷ keys.SpareLines128 ∷ keys.Station ∷ []
 
 abbrev pub station_keys : List Key
 station_keys =
@@ -157,6 +157,9 @@ pub record FileData : Type 0 where
   pub xot_port : ℕ
   -- the name of the exchange
   pub name : Option (List ℕ)
+  -- how many places are reserved for further lines, of modulo 8 and of modulo 128
+  pub spare_lines : ℕ
+  pub spare_lines_128 : ℕ
   pub stations : List StationData
 
 -- The file. Reads its top keys, checks for keys that are not listed, then reads the stations in order.
@@ -167,9 +170,20 @@ file_of table = do
   host ← defaulted as_str (codes "127.0.0.1") keys.Host table
   xot_port ← defaulted (number_in 1 65535) registered_port keys.XotPort table
   name ← optional group_name_in keys.Name table
+  spare_lines ← defaulted (number_in 0 4096) 0 keys.SpareLines table
+  spare_lines_128 ← defaulted (number_in 0 4096) 0 keys.SpareLines128 table
   tables ← required some_tables_in keys.Station table
   stations ← checked (has_only top_keys table) (faults.Field keys.Other) (each entry_of tables)
-  Ok (record { segment_limit = segment_limit; journal = journal; host = host; xot_port = xot_port; name = name; stations = stations })
+  Ok (record {
+    segment_limit = segment_limit;
+    journal = journal;
+    host = host;
+    xot_port = xot_port;
+    name = name;
+    spare_lines = spare_lines;
+    spare_lines_128 = spare_lines_128;
+    stations = stations;
+  })
 
 -- the file that a text contains
 abbrev pub file_in : List ℕ → Result FileData SubscriptionFault

@@ -52,13 +52,15 @@ pub struct Facilities {
     pub incoming_access: bool,
 }
 
-/// Where the calls of a line come from and go to.
+/// Where the calls of a line come from and go to, or that there is no line.
 #[derive(Drop, PartialEq)]
 pub enum Access {
     /// The TCP port of the line alone, 1 to 65,535: the exchange listens there for its one connection.
     Port(u16),
     /// The XOT router behind which the line is: each call has a connection of its own (RFC 1613).
     Router(RouterAddress),
+    /// No line: its place is kept for one that may come. A file has none of these.
+    Spare,
 }
 
 impl Access {
@@ -69,6 +71,7 @@ impl Access {
         match self {
             Access::Port(port) => Access::Port(*port),
             Access::Router(router) => Access::Router(router.copy()),
+            Access::Spare => Access::Spare,
         }
     }
 
@@ -77,7 +80,7 @@ impl Access {
         ensures { result ≡ is_behind router.now self.now }
     {
         match self {
-            Access::Port(_) => false,
+            Access::Port(_) | Access::Spare => false,
             Access::Router(own) => own.address() == router,
         }
     }

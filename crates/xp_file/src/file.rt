@@ -41,6 +41,10 @@ pub struct SubscriptionFile {
     pub xot_port: u16,
     /// The name of the exchange, if the file gives it one.
     pub name: Option<Name>,
+    /// How many places are reserved for further lines of modulo 8, 0 to 4,096.
+    pub spare_lines: u16,
+    /// How many are reserved for further lines of modulo 128, 0 to 4,096.
+    pub spare_lines_128: u16,
     /// The stations in the order of the file, at least one.
     pub stations: Vec<StationEntry>,
 }
@@ -57,6 +61,8 @@ impl Model for SubscriptionFile {
       host = string_bytes file.host;
       xot_port = file.xot_port;
       name = file.name;
+      spare_lines = file.spare_lines;
+      spare_lines_128 = file.spare_lines_128;
       stations = file.stations.items;
     } };
 }
@@ -76,6 +82,9 @@ const NO_JOURNAL_LIMIT: u64 = 576_460_752_303_423_488;
 
 /// The default host.
 const DEFAULT_HOST: &str = "127.0.0.1";
+
+/// The most places that can be reserved for further lines of one modulus.
+const MAX_SPARE_LINES: u16 = 4_096;
 
 /// The greatest index of a group: four digits (X.25 clause 6.14.6).
 const MAX_INDEX: u16 = 9_999;
@@ -246,6 +255,8 @@ fn read_table(alloc: Global, table: &Table) -> Result<SubscriptionFile, Subscrip
     let host = host(alloc, table)?;
     let xot_port = xot_port(table)?;
     let name = exchange_name(table)?;
+    let spare_lines = reserved(table, Key::SpareLines)?;
+    let spare_lines_128 = reserved(table, Key::SpareLines128)?;
     let tables = some_tables_at(alloc, table, Key::Station)?;
     if !has_only(table, &TOP_KEYS) {
         return Err(SubscriptionFault::Field(Key::Other));
@@ -257,6 +268,8 @@ fn read_table(alloc: Global, table: &Table) -> Result<SubscriptionFile, Subscrip
         host,
         xot_port,
         name,
+        spare_lines,
+        spare_lines_128,
         stations,
     })
 }
@@ -294,6 +307,12 @@ fn exchange_name(table: &Table) -> Result<Option<Name>, SubscriptionFault>
     ensures { result ≡ optional group_name_in keys.Name (table_view table.now) }
 {
     optional(table, Key::Name, group_name)
+}
+
+fn reserved(table: &Table, key: Key) -> Result<u16, SubscriptionFault>
+    ensures { result ≡ defaulted (number_in 0 4096) 0 key (table_view table.now) }
+{
+    defaulted(table, key, 0, |value| short(value, 0, MAX_SPARE_LINES))
 }
 
 fn host(alloc: Global, table: &Table) -> Result<String, SubscriptionFault>

@@ -3,12 +3,14 @@
 use crate::key::Key;
 
 /// The keys at the top of a file.
-pub const TOP_KEYS: [Key; 6] = [
+pub const TOP_KEYS: [Key; 8] = [
     Key::SegmentLimit,
     Key::Journal,
     Key::Host,
     Key::XotPort,
     Key::Name,
+    Key::SpareLines,
+    Key::SpareLines128,
     Key::Station,
 ];
 

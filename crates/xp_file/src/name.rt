@@ -1,4 +1,4 @@
-ghost use Rattle.std.specs.Prelude.{◌≡◌, if◌then◌else◌};
+ghost use Rattle.std.specs.Prelude.{◌≡◌, [], if◌then◌else◌};
 ghost use Rattle.std.specs.List.{list_all};
 ghost use Rattle.xp_file.specs.Name.{has_length, is_line_letter, is_line_name, is_group_letter, is_group_name};
 
@@ -7,7 +7,8 @@ use std::fmt;
 use std::hash::{Hash, Hasher};
 use std::marker::Model;
 
-/// The name of a line or of a closed user group: 1 to 16 letters and digits. A line's name has no capital letters.
+/// The name of a line or of a closed user group: 1 to 16 letters and digits. A line's name has no capital letters. A place
+/// that has no line has an empty name.
 #[derive(Drop)]
 pub struct Name {
     text: ArrayString<16>,
@@ -45,6 +46,15 @@ impl Name {
         }
         let text = ArrayString::from(text).ok()?;
         Some(Name { text })
+    }
+
+    /// The empty name of a place that has no line.
+    pub fn none() -> Name
+        ensures { result ≡ [] }
+    {
+        Name {
+            text: ArrayString::new(),
+        }
     }
 
     /// An equal copy.

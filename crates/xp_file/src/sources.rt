@@ -30,7 +30,7 @@ impl Sources {
     pub(crate) const MOST: usize = 8;
 
     /// None.
-    pub(crate) fn new() -> Sources
+    pub fn new() -> Sources
         ensures { result ≡ [] }
     {
         Sources {

@@ -1,6 +1,7 @@
--- The numbers that serving is asked with.
+-- What serving is asked with.
 use Rattle.std.specs.Prelude.{◌≡◌, ℕ, ◌≤◌, List, Option, None, Some}
 use Rattle.std.specs.Str.Parse.{IsNumeral, digits_value, without_leading_plus}
+use Rattle.xp_limits.specs.Threads.{AreThreads}
 use Rattle.xp_limits.specs.declared.limits.Limits.{Limits}
 
 abbrev pub greatest : ℕ
@@ -22,7 +23,8 @@ abbrev pub IsLimit : Option (List ℕ) → ℕ → Type 0
 IsLimit None limit = limit ≡ no_limit
 IsLimit (Some text) limit = IsNumber text limit
 
--- the limits of the texts of two numbers, which may be absent
-pub record AreLimits (records turns : Option (List ℕ)) (limits : Limits) : Type 0 where
+-- the limits of the texts of two numbers, and the threads of a third text; each may be absent
+pub record AreLimits (records turns threads : Option (List ℕ)) (limits : Limits) : Type 0 where
   pub records_are : IsLimit records limits.records
   pub turns_are : IsLimit turns limits.turns
+  pub threads_are : AreThreads threads limits.threads

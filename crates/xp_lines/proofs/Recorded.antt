@@ -1,10 +1,9 @@
 -- Records that go from a recorder to a sink, in one turn after the other.
-use Rattle.std.proofs.Common.{◌≡◌, List, [], ◌++◌, None, Option, Result, Ok, Err, OnOk, sym, ap, subst, ◌∙◌, append_assoc, append-nil}
+use Rattle.std.proofs.Common.{◌≡◌, List, [], ◌++◌, sym, ap, subst, ◌∙◌, append_assoc, append-nil}
 use Rattle.std.specs.declared.alloc.Global.{Global as Alloc}
 use Rattle.xp_charge.specs.declared.record.Record.{Record}
 use Rattle.xp_core.specs.Records.{records_of}
 use Rattle.xp_lock.specs.Passes.{IsLegal}
-use Rattle.xp_lock.specs.declared.fault.ReloadRefusal.{ReloadRefusal}
 use Rattle.xp_seats.specs.Recording.{Recording}
 use Rattle.xp_sink.specs.InForce.{AreInForce}
 use Rattle.xp_sink.specs.Seen.{IsSeen}
@@ -85,19 +84,17 @@ seen_by tables own recorder given view same taken each legal shows =
     })
 
 -- subscriptions that came into force are so for a sink that was given what the recorder took, and that handed them out
-pub in_force_by : {E : Type 0} (Handed : Tables → Type 0) (outcome : Result (Unit {0}) E) (refusal : Option ReloadRefusal) (tables own : Tables) (recorder : Recording Alloc)
-    (given : List Record) (next : Tables) → OnOk outcome (refusal ≡ None) → (refusal ≡ None → in_force tables recorder.seen ≡ next) → own ≡ tables → given ≡ recorder.received
-    → recorder.received ≡ records_of recorder.seen → IsLegal tables recorder.seen → Handed next
-    → OnOk outcome ((asked : Tables) × Handed asked × AreInForce own given asked)
-in_force_by Handed (Ok done) refusal tables own recorder given next none comes same taken each legal handed = (
+pub in_force_by : (Handed : Tables → Type 0) (tables own : Tables) (recorder : Recording Alloc) (given : List Record) (next : Tables)
+    → in_force tables recorder.seen ≡ next → own ≡ tables → given ≡ recorder.received → recorder.received ≡ records_of recorder.seen → IsLegal tables recorder.seen → Handed next
+    → (asked : Tables) × Handed asked × AreInForce own given asked
+in_force_by Handed tables own recorder given next comes same taken each legal handed = (
   next,
   handed,
   subst (λ opening. AreInForce opening given next) (sym same) (record {
     history = recorder.seen;
     legal = legal;
     records_are = taken ∙ each;
-    in_force = comes none;
-    frame = subst (IsSameFrame tables) (comes none) (run_frame tables recorder.seen (world_after tables recorder.seen) legal);
+    in_force = comes;
+    frame = subst (IsSameFrame tables) comes (run_frame tables recorder.seen (world_after tables recorder.seen) legal);
   }),
 )
-in_force_by Handed (Err fault) refusal tables own recorder given next none comes same taken each legal handed = tt

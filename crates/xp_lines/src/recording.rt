@@ -1,6 +1,6 @@
 //! Charging records are taken from the exchange as calls end, and handed to a sink, and what the sink asks of the exchange is done.
 
-ghost use Rattle.std.specs.Prelude.{◌≡◌, ◌++◌, None, All, OnOk};
+ghost use Rattle.std.specs.Prelude.{◌≡◌, ◌++◌, All};
 ghost use Rattle.xp_charge.specs.Lines.{HasLines};
 ghost use Rattle.xp_lines.specs.Recorded.{HandsOn};
 ghost use Rattle.xp_subs.specs.Tables.{Tables, line_count};
@@ -9,7 +9,7 @@ use crate::signals::Signals;
 use std::alloc::Global;
 use std::sync::Wait;
 use xp_charge::Record;
-use xp_lock::{Exchange, Look, ReloadRefusal, Reloading};
+use xp_lock::{Exchange, Look, ReloadRefusal};
 use xp_seats::{Name, Recorder};
 use xp_sink::{NextSubs, NotInForce, Received, RecordSink};
 
@@ -61,8 +61,8 @@ fn stop_at(signals: &Signals, received: Received) {
     }
 }
 
-/// Hands the records of the calls that have ended since to the sink. Where it hands out other subscriptions, these come into force
-/// before that. Else it sees the exchange, where it wants to. If no memory can be had for the records, they wait.
+/// Hands the records of the calls that have ended since to the sink. Where it hands out other subscriptions, they come into force
+/// if they can. Else it sees the exchange, where it wants to. If no memory can be had for the records, they wait.
 fn hand_over<N: Name, S: RecordSink, R: Wait>(
     rt: &R,
     alloc: Global,
@@ -78,15 +78,16 @@ fn hand_over<N: Name, S: RecordSink, R: Wait>(
     ensures hands { HandsOn S.received S.keeps recorder.old sink.old recorder.new sink.new }
 {
     match sink.next_subs() {
-        Some(next) => reload(rt, exchange, recorder, sink, next),
+        Some(next) => reload(rt, alloc, exchange, recorder, sink, next),
         None => hand_on(rt, alloc, exchange, recorder, sink),
     }
 }
 
-/// Hands the records of the calls that have ended since to the sink, and then tells it whether these subscriptions, which it handed
-/// out, are in force.
+/// Puts these subscriptions, which the sink handed out, into force. The sink is handed the records of the calls that ended before,
+/// also as lines were given up, and then is told that. Where they are refused it is told why, and the records are handed on as ever.
 fn reload<N: Name, S: RecordSink, R: Wait>(
     rt: &R,
+    alloc: Global,
     exchange: &Exchange<N>,
     recorder: &mut Recorder<N>,
     sink: &mut S,
@@ -101,24 +102,25 @@ fn reload<N: Name, S: RecordSink, R: Wait>(
     ensures hands { HandsOn S.received S.keeps recorder.old sink.old recorder.new sink.new }
 {
     let NextSubs { subs, moment } = next;
-    let Ok(reloading) = exchange.reload(rt, recorder, subs, moment) else {
-        sink.reloaded(Err(NotInForce::Memory));
-        return Received::GoesOn;
-    };
-    let Reloading { records, refusal } = reloading;
-    let received = give(sink, records);
-    sink.reloaded(outcome_of(refusal));
-    received
+    match exchange.reload(rt, recorder, subs, moment) {
+        Ok(records) => {
+            let received = give(sink, records);
+            sink.reloaded(Ok(()));
+            received
+        }
+        Err(refusal) => {
+            sink.reloaded(Err(reason_of(refusal)));
+            hand_on(rt, alloc, exchange, recorder, sink)
+        }
+    }
 }
 
-/// What a sink is told where subscriptions were refused, or not.
-fn outcome_of(refusal: Option<ReloadRefusal>) -> Result<(), NotInForce>
-    ensures { OnOk result (refusal ≡ None) }
-{
+/// What a sink is told where subscriptions were refused.
+fn reason_of(refusal: ReloadRefusal) -> NotInForce {
     match refusal {
-        None => Ok(()),
-        Some(ReloadRefusal::Halted) => Err(NotInForce::Halted),
-        Some(ReloadRefusal::Refused(fault)) => Err(NotInForce::Refused(fault)),
+        ReloadRefusal::Halted => NotInForce::Halted,
+        ReloadRefusal::Refused(fault) => NotInForce::Refused(fault),
+        ReloadRefusal::Memory => NotInForce::Memory,
     }
 }
 

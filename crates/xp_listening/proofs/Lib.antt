@@ -1,2 +1,3 @@
 pub mod Accesses
 mod Addresses
+mod Places

@@ -9,7 +9,7 @@ use Rattle.xp_links.specs.Pairs.{AreEach}
 use Rattle.xp_door.specs.Callers.{caller_of}
 use Rattle.xp_subs.specs.Tables.{Tables}
 use Rattle.xp_subs.specs.declared.line.Line.{Line}
-use Rattle.xp_tcp.specs.Accesses.{Origin, AtPort, Behind}
+use Rattle.xp_tcp.specs.Accesses.{Origin, AtPort, Behind, Spare}
 use Rattle.xp_tcp.specs.Networks.{IsSourceText}
 use Rattle.xp_tcp.specs.declared.source.Source.{Source}
 
@@ -21,12 +21,13 @@ AreSources (text ∷ texts) [] = ⊥
 AreSources (text ∷ texts) (source ∷ sources) = IsSourceText text source × AreSources texts sources
 
 -- a line with this access is served so: on its own port, for connections from its own sources, or with the router of the address that
--- the text writes, at its port, whose calls are matched with the line and its station
+-- the text writes, at its port, whose calls are matched with the line and its station; and a spare place from nowhere
 abbrev pub IsServedBy : Tables → Line → Access → Origin → Type 0
 IsServedBy tables line (subscribed.Port port) origin =
     (sources : List Source) × (origin ≡ AtPort port sources) × AreSources line.from sources
 IsServedBy tables line (subscribed.Router router) origin =
     (at : SocketAddr) × (origin ≡ Behind at (caller_of tables line)) × IsIpText router.address (socket_ip at) × (socket_port at ≡ router.port)
+IsServedBy tables line subscribed.Spare origin = origin ≡ Spare
 
 -- a line is served where it is subscribed
 abbrev pub IsServedAt : Tables → Line → Origin → Type 0

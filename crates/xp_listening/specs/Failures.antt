@@ -39,6 +39,7 @@ IsNameOfStrange tables name =
 -- the router of this access has no address
 abbrev pub IsBehindStrange : Access → Type 0
 IsBehindStrange (access.Port port) = ⊥
+IsBehindStrange access.Spare = ⊥
 IsBehindStrange (access.Router router) = (address : IpAddr) → IsIpText router.address address → ⊥
 
 -- the name of a line whose router has no address

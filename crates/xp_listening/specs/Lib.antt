@@ -1,4 +1,5 @@
 pub mod Accesses
 pub mod Failures
 pub mod Hosts
+pub mod NextPlaces
 pub mod Prepared

@@ -11,6 +11,7 @@ use Rattle.xp_tcp.specs.declared.source.Source.{Source}
 -- its router has an address, if it is behind one
 abbrev pub HasAddress : Access → Type 0
 HasAddress (access.Port port) = Unit {0}
+HasAddress access.Spare = Unit {0}
 HasAddress (access.Router router) = (address : IpAddr) × IsIpText router.address address
 
 -- each of its sources is a host or a network, and its router has an address

@@ -8,7 +8,7 @@ ghost use Rattle.xp_listening.specs.Accesses.{AreSources, AreServedAt, IsServedA
 ghost use Rattle.xp_listening.specs.Prepared.{HasAddresses};
 ghost use Rattle.xp_subs.specs.Sound.{IsSound};
 ghost use Rattle.xp_file.specs.declared.entry.Access.TheVariants as subscribed;
-ghost use Rattle.xp_subs.specs.Tables.{has_routers, line_at, line_count};
+ghost use Rattle.xp_subs.specs.Tables.{line_at, line_count};
 ghost use Rattle.xp_tcp.specs.Accesses.{AtPort, Origin};
 ghost use Rattle.xp_tcp.specs.declared.source.Source.{Source};
 
@@ -18,11 +18,11 @@ use std::net::{IpAddr, Net, SocketAddr};
 use std::num::NonZeroUsize;
 use std::sync::Arc;
 use xp_subs::{Access, LineNo, RouterAddress, Subs};
-use xp_tcp::{Admission, AdmissionFault, Caller, ListenFault, Notices, Sockets};
+use xp_tcp::{Admission, AdmissionFault, Caller, LinePlaces, ListenFault, Sockets};
 
 /// Listens on the port of each line, in order, at an address of the machine, and for the routers of the lines that are behind one.
-/// So many threads are to serve the lines.
-/// The ports tell what an operator has to see by `notices`.
+/// So many threads are to serve the lines in their places, whose notices are told what an operator has to see. The door is made in any
+/// case: a line behind a router may come later.
 ///
 /// # Errors
 ///
@@ -35,24 +35,22 @@ pub fn listen_all<R: Net>(
     subs: &Subs,
     host: IpAddr,
     threads: NonZeroUsize,
-    notices: Arc<Notices>,
+    places: Arc<LinePlaces>,
 ) -> Result<Sockets, ServeFailure>
     ensures accesses { IfOk result (AreServedAt subs.now) }
     ensures wanting { IfErr result (IsWanting subs.now) }
 {
     let lines = subs.counts().lines;
     check_addresses(subs)?;
-    let mut sockets = Sockets::new(alloc, lines, threads, notices)?;
+    let mut sockets = Sockets::new(alloc, lines, threads, places)?;
     for line in 0..lines {
         listen(rt, subs, host, line as LineNo, &mut sockets)?;
     }
-    if subs.has_routers() {
-        open_door(rt, alloc, subs, host, &mut sockets)?;
-    }
+    open_door(rt, alloc, subs, host, &mut sockets)?;
     Ok(sockets)
 }
 
-/// Listens for the routers of all lines.
+/// Makes the door, and listens for the routers of lines, if a line is behind one.
 fn open_door<R: Net>(
     rt: &R,
     alloc: Global,
@@ -60,11 +58,17 @@ fn open_door<R: Net>(
     host: IpAddr,
     sockets: &mut Sockets,
 ) -> Result<(), ServeFailure>
-    requires { has_routers subs.now ≡ true }
     ensures same { sockets.new ≡ sockets.old }
     ensures wanting { IfErr result (IsWanting subs.now) }
 {
-    match sockets.open_door(rt, alloc, host, subs.xot_port()) {
+    if !subs.has_routers() {
+        // No port is asked for: descriptors are wanting, or memory.
+        return sockets
+            .open_door(rt, alloc, None)
+            .map_err(|_| ServeFailure::Memory);
+    }
+    let at = SocketAddr::new(host, subs.xot_port());
+    match sockets.open_door(rt, alloc, Some(at)) {
         Ok(()) => Ok(()),
         Err(ListenFault::Port) => Err(ServeFailure::XotPort),
         Err(ListenFault::Memory) => Err(ServeFailure::Memory),
@@ -100,7 +104,11 @@ fn check_line(subs: &Subs, line: LineNo) -> Result<(), ServeFailure>
 /// # Errors
 ///
 /// `Router` where its text is no IP address.
-fn router_of(subs: &Subs, line: LineNo, router: &RouterAddress) -> Result<SocketAddr, ServeFailure>
+pub(crate) fn router_of(
+    subs: &Subs,
+    line: LineNo,
+    router: &RouterAddress,
+) -> Result<SocketAddr, ServeFailure>
     requires line { line < line_count subs.now }
     requires router { (line_at subs.now line).access ≡ subscribed.Router router.now }
     ensures at { IfOk result (λ at. IsIpText router.now.address (socket_ip at) × (socket_port at ≡ router.now.port)) }
@@ -117,7 +125,7 @@ fn router_of(subs: &Subs, line: LineNo, router: &RouterAddress) -> Result<Socket
 /// # Errors
 ///
 /// `From` where one of its sources is neither an IP address nor a network.
-fn admission_of(subs: &Subs, line: LineNo) -> Result<Admission, ServeFailure>
+pub(crate) fn admission_of(subs: &Subs, line: LineNo) -> Result<Admission, ServeFailure>
     requires { line < line_count subs.now }
     ensures admitted { IfOk result (AreSources (line_at subs.now line).from) }
     ensures wanting { IfErr result (IsWanting subs.now) }
@@ -140,7 +148,7 @@ fn admission_of(subs: &Subs, line: LineNo) -> Result<Admission, ServeFailure>
     Ok(admission)
 }
 
-/// Listens on the port of a line, the next one, or adds it as one behind its router.
+/// Listens on the port of a line, the next one, or adds it as one behind its router, or as a spare place.
 fn listen<R: Net>(
     rt: &R,
     subs: &Subs,
@@ -156,6 +164,8 @@ fn listen<R: Net>(
     match subs.access_of(line) {
         Access::Port(port) => listen_on(rt, subs, host, line, *port, sockets),
         Access::Router(router) => add_behind(rt, subs, line, router, sockets),
+        // No port is asked for: descriptors are wanting, or memory.
+        Access::Spare => sockets.add_spare(rt).map_err(|_| ServeFailure::Memory),
     }
 }
 

@@ -63,7 +63,7 @@ fn own_port(subs: &Subs, line: LineNo) -> Option<u16>
 {
     match subs.access_of(line) {
         Access::Port(port) => Some(*port),
-        Access::Router(_) => None,
+        Access::Router(_) | Access::Spare => None,
     }
 }
 

@@ -34,18 +34,25 @@ use Rattle.xp_seats.specs.Handed.{is_stall}
 use Rattle.xp_lock.proofs.Among.{Among, among_is, is_from, without}
 use Rattle.xp_lock.proofs.Calls.{AreClosed, closed_after}
 use Rattle.xp_lock.proofs.GivenLines.{count_more, given_few, given_more, given_none}
-use Rattle.xp_lock.proofs.Histories.{forced_taken}
 use Rattle.xp_lock.proofs.Known.{AreGivenOut, MayBe, as_many, known_before, looked_out, more_out, none_out, since_look}
 use Rattle.xp_lock.proofs.Lowest.{IsLowest, lowest_is, none_passes, short_from, short_parts}
 use Rattle.xp_lock.proofs.Putting.{box_there}
-use Rattle.xp_lock.proofs.Ready.{alike_same}
 use Rattle.xp_lock.proofs.Stalled.{closed_next, few, goes_among, off_after, stays_off, was_on}
 use Rattle.xp_lock.proofs.Three.{goes_to, rises, served, trio}
 
--- an event that is no stall uses none up
+-- an event uses one of the prepared stalls up, or none
+pub left_least : {A : Type 0} (what : What A) (stalls : ℕ) → stalls ≤ left_after what stalls + 1
+left_least events.Stall stalls = omega arith
+left_least what stalls = omega arith
+
+-- one that is no stall uses none up
 pub left_others : {A : Type 0} (what : What A) (stalls : ℕ) → is_stall what ≡ false → left_after what stalls ≡ stalls
 left_others events.Stall stalls kind = absurd (true≢false kind)
 left_others what stalls kind = refl
+
+pub left_most : {A : Type 0} (what : What A) (stalls : ℕ) → left_after what stalls ≤ stalls
+left_most events.Stall stalls = omega arith
+left_most what stalls = omega arith
 
 module _ {A : Type 0} (old : CoreWithOutboxes A) (event : Event A) where
   abbrev world : World
@@ -58,8 +65,8 @@ module _ {A : Type 0} (old : CoreWithOutboxes A) (event : Event A) where
   abbrev is_at : Entry A → Entry A → Type 0
   is_at entry stall = stall.event.moment ≡ entry.event.moment
 
-  -- the event was entered with this number, and so far some stalls, and these lines were given something
-  pub record Entering (now : Exchange A) (after : List (Putting (Outgoing A))) (number : ℕ) (lines : List ℕ) : Type 0 where
+  -- the event was entered with this number, and so far some stalls, of so many that were prepared, and these lines were given something
+  pub record Entering (now : Exchange A) (after : List (Putting (Outgoing A))) (number : ℕ) (lines : List ℕ) (prepared : ℕ) : Type 0 where
     pub entry : Entry A
     pub number_is : number ≡ entry.number
     pub event_is : entry.event ≡ event
@@ -74,7 +81,8 @@ module _ {A : Type 0} (old : CoreWithOutboxes A) (event : Event A) where
     pub subs : now.subs ≡ old.subs
     pub handed_over : now.given ≡ old.given
     pub waiting : now.waiting ≡ old.waiting ++ records_of (entry ∷ stalls)
-    pub prepared : 3 ≤ now.stalls + length stalls
+    pub enough : 3 ≤ prepared
+    pub used : prepared ≤ now.stalls + length stalls
     pub count : length after ≡ length old.outboxes
     pub given : AreGiven (entry ∷ stalls) lines
     pub out : AreGivenOut old.outboxes (entry ∷ stalls) after
@@ -88,7 +96,7 @@ module _ {A : Type 0} (old : CoreWithOutboxes A) (event : Event A) where
     pub few_left : length left + length stalls ≤ 3
     pub all_left : (line : ℕ) → Among (three entry) line → is_off (state_at (world_of now) line) ≡ false → Among left line
 
-  module _ (can : CanEnter old event) (now : Exchange A) (between after : List (Putting (Outgoing A))) (number : ℕ) (lines : List ℕ) (loop : Entering now between number lines)
+  module _ (can : CanEnter old event) (now : Exchange A) (between after : List (Putting (Outgoing A))) (number : ℕ) (lines : List ℕ) (prepared : ℕ) (loop : Entering now between number lines prepared)
       (search : IsSearched now between after) where
     abbrev entries : List (Entry A)
     entries = loop.entry ∷ loop.stalls
@@ -98,6 +106,10 @@ module _ {A : Type 0} (old : CoreWithOutboxes A) (event : Event A) where
 
     few_stalls : length loop.stalls ≤ 3
     few_stalls = let most = loop.few_left in omega (arith, most)
+
+    -- how many prepared stalls are left
+    pub stalls_left : prepared ≤ now.stalls + 3
+    stalls_left = let used = loop.used in omega (arith, used, few_stalls)
 
     room_left : (line : ℕ) → is_off (state_at (world_of now) line) ≡ false → 7 ≤ (outbox_at after line).free + 2 * length loop.stalls
     room_left line on = let had = loop.had line on in let known = (out_now line).known in let out = loop.few_out line in omega (arith, had, known, out)
@@ -185,7 +197,6 @@ module _ {A : Type 0} (old : CoreWithOutboxes A) (event : Event A) where
             let long = ap length loop.history in
             let same = ap (λ t. t.journal) loop.subs in
             omega (arith, places, few_stalls, long, same, length-append old.history entries);
-        forced = forced_taken old event done (with_outboxes now after) (taken old.outboxes (record { count = refl; each = λ line. alike_same (outbox_at old.outboxes line) })) can.kind can.kept.forced;
       }
 
     -- ---- one more is stalled
@@ -210,7 +221,7 @@ module _ {A : Type 0} (old : CoreWithOutboxes A) (event : Event A) where
       at_most_two = let one = others.1 in let most = loop.few_left in omega (arith, one, most)
 
       pub is_prepared : 0 < now.stalls
-      is_prepared = let all = loop.prepared in omega (arith, all, at_most_two)
+      is_prepared = let all = loop.enough in let used = loop.used in omega (arith, all, used, at_most_two)
 
       pub has_place : length now.history < now.subs.journal
       has_place =
@@ -296,7 +307,7 @@ module _ {A : Type 0} (old : CoreWithOutboxes A) (event : Event A) where
               subst (λ xs. Step old.subs xs (world_of now) stall (world_of next)) loop.history
               (subst (λ t. Step t now.history (world_of now) stall (world_of next)) loop.subs advances.step)
 
-          pub goes_on : (more : List ℕ) → more ≡ with_lines lines stall.outputs → Entering next last number more
+          pub goes_on : (more : List ℕ) → more ≡ with_lines lines stall.outputs → Entering next last number more prepared
           goes_on more is = record {
             entry = loop.entry;
             number_is = loop.number_is;
@@ -314,7 +325,8 @@ module _ {A : Type 0} (old : CoreWithOutboxes A) (event : Event A) where
             handed_over = advances.given ∙ loop.handed_over;
             waiting = advances.waiting ∙ ap (λ xs. xs ++ stall.records.items) loop.waiting ∙ append_assoc old.waiting (records_of entries) stall.records.items
                 ∙ ap (λ xs. old.waiting ++ xs) (flat_map_more (λ (e : Entry A). e.records.items) [] entries stall);
-            prepared = let all = loop.prepared in omega (arith, all, used, length_push loop.stalls stall);
+            enough = loop.enough;
+            used = let all = loop.used in omega (arith, all, used, length_push loop.stalls stall);
             count = put.count ∙ search.alike.count ∙ loop.count;
             given = subst (AreGiven (entries ++ stall ∷ [])) (sym is) given_next;
             out = more_out after last entries stall room put old.outboxes out_now;
@@ -330,14 +342,8 @@ module _ {A : Type 0} (old : CoreWithOutboxes A) (event : Event A) where
 
 -- ---- the event itself
 
-module _ {A : Type 0} (old core mid : Exchange A) (same : core ≡ record old { stalls = core.stalls }) (event : Event A) (entry : Entry A) (outboxes : List (Putting (Outgoing A)))
-    (could : CanEnter (with_outboxes old outboxes) event) (run : Run core.subs core.history (world_of core)) (advances : Advances core event mid entry) (small : AreFew entry.outputs) where
-  as_before : with_outboxes core outboxes ≡ with_outboxes old outboxes
-  as_before = ap (λ e. with_outboxes e outboxes) same
-
-  can : CanEnter (with_outboxes core outboxes) event
-  can = subst (λ s. CanEnter s event) (sym as_before) could
-
+module _ {A : Type 0} (core mid : Exchange A) (event : Event A) (entry : Entry A) (outboxes : List (Putting (Outgoing A)))
+    (can : CanEnter (with_outboxes core outboxes) event) (run : Run core.subs core.history (world_of core)) (advances : Advances core event mid entry) (small : AreFew entry.outputs) where
   pub room_first : HasRoomFor entry.outputs outboxes
   room_first line = elim (cases_lt 0 (length (to_line line entry.outputs))) [
     | inl some ↦
@@ -368,9 +374,9 @@ module _ {A : Type 0} (old core mid : Exchange A) (same : core ≡ record old { 
         subst (λ l. PLACES_KEPT ≤ (outbox_at outboxes l).free) (sym (up.1 ∙ ap (λ e. e.line) advances.event_is)) (can.room (ap (λ e. is_up e.what) (sym advances.event_is) ∙ up.0))
   ]
 
-  pub begins : (between : List (Putting (Outgoing A))) → IsPut entry.outputs outboxes between → 3 ≤ mid.stalls → (lines : List ℕ) → lines ≡ with_lines [] entry.outputs
-      → Entering (with_outboxes old outboxes) event mid between entry.number lines
-  begins between put prepared lines is = subst (λ s. Entering s event mid between entry.number lines) as_before (record {
+  pub begins : (between : List (Putting (Outgoing A))) → IsPut entry.outputs outboxes between → (prepared : ℕ) → 3 ≤ prepared → mid.stalls ≡ prepared
+      → (lines : List ℕ) → lines ≡ with_lines [] entry.outputs → Entering (with_outboxes core outboxes) event mid between entry.number lines prepared
+  begins between put prepared enough same lines is = record {
     entry = entry;
     number_is = refl;
     event_is = advances.event_is;
@@ -383,7 +389,8 @@ module _ {A : Type 0} (old core mid : Exchange A) (same : core ≡ record old { 
     subs = advances.subs;
     handed_over = advances.given;
     waiting = advances.waiting ∙ ap (λ xs. core.waiting ++ xs) (sym (append-nil entry.records.items));
-    prepared = omega (arith, prepared);
+    enough = enough;
+    used = omega (arith, same);
     count = put.count;
     given = subst (AreGiven (entry ∷ [])) (sym is) given_first;
     out = more_out outboxes between [] entry room_first put outboxes (none_out outboxes);
@@ -394,4 +401,4 @@ module _ {A : Type 0} (old core mid : Exchange A) (same : core ≡ record old { 
     left = first_three;
     few_left = omega arith;
     all_left = λ line there on. there;
-  })
+  }

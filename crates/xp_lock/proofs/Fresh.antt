@@ -33,14 +33,14 @@ module _ {A : Type 0} where
   abbrev IsStall : Entry A → Type 0
   IsStall entry = is_stall entry.event.what ≡ true
 
-  all_stalls : (subs : Tables) (before : List (Entry A)) (world : World) (places : ℕ → ℕ) (entries stalls : List (Entry A)) (last : World)
+  pub all_stalls : (subs : Tables) (before : List (Entry A)) (world : World) (places : ℕ → ℕ) (entries stalls : List (Entry A)) (last : World)
       → Stalls subs before world places entries stalls last → AreStalls stalls
   all_stalls subs before world places entries [] last same = All-nil IsStall
   all_stalls subs before world places entries (stall ∷ stalls) last h =
       All-cons IsStall stall stalls (ap is_stall h.1) (all_stalls subs before h.0 places (entries ++ stall ∷ []) stalls last h.4)
 
   -- no line hands in stalls
-  handed_stalls : (line : ℕ) (stalls : List (Entry A)) → AreStalls stalls → handed line stalls ≡ []
+  pub handed_stalls : (line : ℕ) (stalls : List (Entry A)) → AreStalls stalls → handed line stalls ≡ []
   handed_stalls line [] h = refl
   handed_stalls line (stall ∷ stalls) h =
       let rest = handed line stalls in

@@ -1,49 +1,91 @@
--- A history grows by an event and the stalls that it forced.
-use Rattle.std.proofs.Common.{◌≡◌, false, List, [], ◌∷◌, ◌++◌, sym, refl, ap, ◌∙◌, subst, append_assoc, append-nil}
+-- A history grows by an event and the stalls that it forced, and by a reload with the stalls that give up lines.
+use Rattle.std.proofs.Common.{◌≡◌, ℕ, true, false, true≢false, List, [], ◌∷◌, ◌++◌, sym, refl, ap, ◌∙◌, subst, append_assoc, append-nil}
 use Rattle.std.proofs.lemmas.Grind.{flat_map-append}
 use Rattle.std.specs.Prelude.{flat_map}
 use Rattle.xp_subs.specs.Tables.{Tables}
 use Rattle.xp_step.specs.declared.entry.Entry.{Entry}
 use Rattle.xp_step.specs.declared.event.Event.{Event}
+use Rattle.xp_step.specs.declared.event.What.{What}
+use Rattle.xp_step.specs.declared.event.What.TheVariants as events
+use Rattle.xp_step.specs.InForce.{Brings, in_force}
 use Rattle.xp_step.specs.Worlds.{world_after}
-use Rattle.xp_seats.specs.Handed.{is_stall}
+use Rattle.xp_machine.specs.World.{World}
+use Rattle.xp_seats.specs.Handed.{is_raised}
 use Rattle.xp_lock.specs.declared.receipt.Receipt.{Receipt}
 use Rattle.xp_lock.specs.CoreWithOutboxes.{CoreWithOutboxes, Takes, world_of}
 use Rattle.xp_lock.specs.Forced.{Forces}
-use Rattle.xp_lock.specs.Histories.{AreForced, AreForcings, Forcing, IsForcing, entries_of}
+use Rattle.xp_lock.proofs.Fresh.{not_stall}
+use Rattle.xp_lock.specs.Histories.{AllHappen, AreForced, AreGivenUp, Forcing, GivesUpFor, Happening, Happens, IsForcing, IsGivenUp, all_entries, entries_in, entries_of}
+
+-- what lines offer brings no tables
+brings_none : {A : Type 0} (force : Tables) (world : World) (what : What A) (brought : List Tables) → is_raised what ≡ false → Brings force world what brought → brought ≡ []
+brings_none force world events.Reload brought kind brings = absurd (true≢false kind)
+brings_none force world events.Up brought kind none = none
+brings_none force world events.Down brought kind none = none
+brings_none force world (events.Frame identifier packet) brought kind none = none
+brings_none force world (events.WrongFrame wrong) brought kind none = none
+brings_none force world events.Expire brought kind none = none
+brings_none force world events.Stall brought kind none = none
 
 module _ {A : Type 0} where
-  -- no event
+  -- nothing happened
   pub none_forced : (subs : Tables) → AreForced {A = A} subs []
-  none_forced subs = record { forcings = []; history_is = refl; each = tt }
+  none_forced subs = record { happenings = []; history_is = refl; each = tt }
 
-  one_more : (subs : Tables) (before : List (Entry A)) (forcings : List (Forcing A)) (last : Forcing A)
-      → AreForcings subs before forcings → IsForcing subs (before ++ flat_map entries_of forcings) last → AreForcings subs before (forcings ++ last ∷ [])
-  one_more subs before [] last each one = (subst (λ xs. IsForcing subs xs last) (append-nil before) one, tt)
-  one_more subs before (next ∷ forcings) last each one = (
+  one_more : (subs : Tables) (before : List (Entry A)) (happenings : List (Happening A)) (last : Happening A)
+      → AllHappen subs before happenings → Happens subs (before ++ flat_map entries_in happenings) last → AllHappen subs before (happenings ++ last ∷ [])
+  one_more subs before [] last each one = (subst (λ xs. Happens subs xs last) (append-nil before) one, tt)
+  one_more subs before (next ∷ happenings) last each one = (
     each.0,
-    one_more subs (before ++ entries_of next) forcings last each.1
-        (subst (λ xs. IsForcing subs xs last) (sym (append_assoc before (entries_of next) (flat_map entries_of forcings))) one),
+    one_more subs (before ++ entries_in next) happenings last each.1
+        (subst (λ xs. Happens subs xs last) (sym (append_assoc before (entries_in next) (flat_map entries_in happenings))) one),
   )
 
-  pub forced_more : (subs : Tables) (history grown : List (Entry A)) (last : Forcing A)
-      → AreForced subs history → IsForcing subs history last → grown ≡ history ++ entries_of last → AreForced subs grown
+  pub forced_more : (subs : Tables) (history grown : List (Entry A)) (last : Happening A)
+      → AreForced subs history → Happens subs history last → grown ≡ history ++ entries_in last → AreForced subs grown
   forced_more subs history grown last was one is = record {
-    forcings = was.forcings ++ last ∷ [];
-    history_is = is ∙ ap (λ xs. xs ++ entries_of last) was.history_is ∙ ap (λ xs. flat_map entries_of was.forcings ++ xs) (sym (append-nil (entries_of last)))
-        ∙ sym (flat_map-append entries_of was.forcings (last ∷ []));
-    each = one_more subs [] was.forcings last was.each (subst (λ xs. IsForcing subs xs last) was.history_is one);
+    happenings = was.happenings ++ last ∷ [];
+    history_is = is ∙ ap (λ xs. xs ++ entries_in last) was.history_is ∙ ap (λ xs. flat_map entries_in was.happenings ++ xs) (sym (append-nil (entries_in last)))
+        ∙ sym (flat_map-append entries_in was.happenings (last ∷ []));
+    each = one_more subs [] was.happenings last was.each (subst (λ xs. Happens subs xs last) was.history_is one);
   }
 
-  -- a take adds the event and the stalls that it forced
-  pub forced_taken : (old : CoreWithOutboxes A) (event : Event A) (done : Receipt) (new : CoreWithOutboxes A)
-      → Takes old event done new → is_stall event.what ≡ false → AreForced old.subs old.history → AreForced new.subs new.history
-  forced_taken old event done new takes kind was =
-      let last : Forcing A = record { entry = takes.entry; stalls = takes.stalls; places = takes.known } in
-      let led : world_of new ≡ world_after old.subs (old.history ++ takes.entry ∷ takes.stalls) = ap (λ t. world_after t new.history) takes.subs ∙ ap (world_after old.subs) takes.history in
-      let one : IsForcing old.subs old.history last = record {
-        own = ap (λ e. is_stall e.what) takes.event_is ∙ kind;
-        few = takes.few;
-        forces = subst (λ w. Forces old.subs old.history (world_of old) takes.known takes.entry takes.stalls w) led takes.forces;
-      } in
-      subst (λ t. AreForced t new.history) (sym takes.subs) (forced_more old.subs old.history new.history last was one takes.history)
+  -- a line more is given up
+  pub given_up_more : (subs : Tables) (before : List (Entry A)) (next : Tables) (moment : ℕ) (given_up : List (Forcing A)) (last : Forcing A)
+      → AreGivenUp subs before next moment given_up → IsGivenUp subs (before ++ all_entries given_up) next moment last → AreGivenUp subs before next moment (given_up ++ last ∷ [])
+  given_up_more subs before next moment [] last each one = (subst (λ xs. IsGivenUp subs xs next moment last) (append-nil before) one, tt)
+  given_up_more subs before next moment (first ∷ given_up) last each one = (
+    each.0,
+    given_up_more subs (before ++ entries_of first) next moment given_up last each.1
+        (subst (λ xs. IsGivenUp subs xs next moment last) (sym (append_assoc before (entries_of first) (all_entries given_up))) one),
+  )
+
+  pub entries_more : (given_up : List (Forcing A)) (last : Forcing A) → all_entries (given_up ++ last ∷ []) ≡ all_entries given_up ++ entries_of last
+  entries_more given_up last = flat_map-append entries_of given_up (last ∷ []) ∙ ap (λ xs. all_entries given_up ++ xs) (append-nil (entries_of last))
+
+  module _ (old : CoreWithOutboxes A) (event : Event A) (done : Receipt) (new : CoreWithOutboxes A) (takes : Takes old event done new) where
+    -- the event and its stalls
+    abbrev pub forcing_of : Forcing A
+    forcing_of = record { entry = takes.entry; stalls = takes.stalls; places = takes.known }
+
+    pub is_forcing : IsForcing old.subs old.history forcing_of
+    is_forcing =
+        let led : world_of new ≡ world_after old.subs (old.history ++ takes.entry ∷ takes.stalls) = ap (λ t. world_after t new.history) takes.subs ∙ ap (world_after old.subs) takes.history in
+        record {
+          few = takes.few;
+          forces = subst (λ w. Forces old.subs old.history (world_of old) takes.known takes.entry takes.stalls w) led takes.forces;
+        }
+
+    -- a take adds the event and the stalls that it forced
+    pub forced_taken : is_raised event.what ≡ false → AreForced old.subs old.history → AreForced new.subs new.history
+    forced_taken kind was =
+        let raised : is_raised takes.entry.event.what ≡ false = ap (λ e. is_raised e.what) takes.event_is ∙ kind in
+        let brought : takes.entry.tables.items ≡ [] =
+        brings_none (in_force old.subs old.history) (world_of old) takes.entry.event.what takes.entry.tables.items raised takes.forces.step.brought in
+        let last : Happening A = record { given_up = []; event = forcing_of } in
+        let one : Happens old.subs old.history last = record {
+          own = not_stall takes.entry.event.what raised;
+          given_up = subst (λ tables. GivesUpFor old.subs old.history tables takes.entry.event.moment []) (sym brought) refl;
+          forced = subst (λ xs. IsForcing old.subs xs forcing_of) (sym (append-nil old.history)) is_forcing;
+        } in
+        subst (λ t. AreForced t new.history) (sym takes.subs) (forced_more old.subs old.history new.history last was one takes.history)

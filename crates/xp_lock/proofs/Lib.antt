@@ -4,6 +4,7 @@ pub mod Counted
 pub mod Forcing
 pub mod Fresh
 pub mod GivenLines
+pub mod GivingUp
 pub mod Histories
 pub mod InPlace
 pub mod Known

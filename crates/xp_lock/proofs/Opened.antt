@@ -14,7 +14,6 @@ use Rattle.xp_lock.specs.steps.Outboxes.{OutboxesMatch}
 use Rattle.xp_lock.specs.Opening.{AreFirst, first_pass}
 use Rattle.xp_lock.specs.steps.Opening.{AreNew, IsUnused}
 use Rattle.xp_lock.specs.Passes.{Pass}
-use Rattle.xp_lock.proofs.Histories.{none_forced}
 
 all_off : (count line : ℕ) → is_off (state_at (opening count) line) ≡ true
 all_off count line = elim (cases_lt line count) [
@@ -42,7 +41,6 @@ module _ {A : Type 0} where
     put = λ line within. All-get_or (λ (box : Putting (Outgoing A)). box.put ≡ []) outboxes line no_outbox within new.put;
     places = λ line on. absurd (true≢false (sym (all_off (line_count subs) line) ∙ on));
     few = omega arith;
-    forced = none_forced subs;
   }
 
   pub new_push : (lines : ℕ) (outboxes : List (Putting (Outgoing A))) (ends : List (Taking (Outgoing A))) (box : Putting (Outgoing A)) (end : Taking (Outgoing A))

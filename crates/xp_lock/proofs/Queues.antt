@@ -1,5 +1,5 @@
--- A take leaves each outbox the one that it was.
-use Rattle.std.proofs.Common.{◌≡◌, ℕ, suc, Bool, true, List, [], ◌∷◌, length, map, refl, ap, arith}
+-- A take and a reload leave each outbox the one that it was.
+use Rattle.std.proofs.Common.{◌≡◌, ℕ, suc, Bool, true, List, [], ◌∷◌, length, map, refl, ap, ◌∙◌, arith}
 use Rattle.atomic_table.specs.Seated.{TableId}
 use Rattle.xp_outbox.specs.Ends.{Putting}
 use Rattle.xp_step.specs.declared.event.Event.{Event}
@@ -9,6 +9,8 @@ use Rattle.xp_lock.specs.declared.fault.OfferFault.{OfferFault}
 use Rattle.xp_lock.specs.declared.fault.OfferFault.TheVariants.{Halted, JournalFull, NoRoom, Memory}
 use Rattle.xp_lock.specs.Outboxes.{LooksIf, outbox_at}
 use Rattle.xp_lock.specs.CoreWithOutboxes.{Refuses, CoreWithOutboxes, Takes, is_up}
+use Rattle.xp_lock.specs.Histories.{Forcing}
+use Rattle.xp_lock.specs.Reloading.{AreFilled}
 use Rattle.xp_lock.proofs.Ready.{are_alike}
 
 module _ {A : Type 0} where
@@ -25,6 +27,11 @@ module _ {A : Type 0} where
 
   pub queues_taken : (old : CoreWithOutboxes A) (event : Event A) (done : Receipt) (new : CoreWithOutboxes A) → Takes old event done new → queues new.outboxes ≡ queues old.outboxes
   queues_taken old event done new takes = same_queues old.outboxes new.outboxes takes.count (λ line. (takes.outboxes line).queue)
+
+  pub filled_queues : (forcings : List (Forcing A)) (outboxes after : List (Putting (Outgoing A))) → AreFilled forcings outboxes after → queues after ≡ queues outboxes
+  filled_queues [] outboxes after same = ap queues same
+  filled_queues (forcing ∷ forcings) outboxes after filled =
+      filled_queues forcings filled.0 after filled.2 ∙ same_queues outboxes filled.0 filled.1.count (λ line. (filled.1.each line).queue)
 
   -- what a refusal leaves as it was
   pub record IsLeft (old new : CoreWithOutboxes A) : Type 0 where

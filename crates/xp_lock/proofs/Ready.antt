@@ -35,5 +35,4 @@ module _ {A : Type 0} where
     put = λ line within. let same = alike.count in (alike.each line).put ∙ kept.put line (omega (arith, within, same));
     places = λ line on. let was = kept.places line on in let more = (alike.each line).free in omega (arith, was, more);
     few = kept.few;
-    forced = kept.forced;
   }

@@ -1,24 +1,26 @@
 -- A reload under the lock.
-use Rattle.std.proofs.Common.{◌≡◌, ◌∙◌, ℕ, ◌≤◌, IfOk, OnErr, OnOk, Result, Ok, Err, List, [], ◌∷◌, ◌++◌, cond, eqb, Bool, true, false, length, refl, ap, sym, subst, append_assoc, append-nil, arith}
+use Rattle.std.proofs.Common.{◌≡◌, ◌∙◌, ℕ, ◌<◌, ◌≤◌, List, [], ◌∷◌, ◌++◌, cond, eqb, Bool, true, false, length, refl, ap, sym, subst, append_assoc, append-nil, arith}
+use Rattle.std.proofs.lemmas.List.{flat_map_more}
 use Rattle.std.proofs.lemmas.List.Elements.{All-nil}
 use Rattle.std.specs.Prelude.{not, ◌&&◌}
 use Rattle.xp_charge.specs.declared.record.Record.{Record}
 use Rattle.xp_outbox.specs.Ends.{Putting}
-use Rattle.xp_subs.specs.Tables.{Tables}
+use Rattle.xp_subs.specs.Tables.{Tables, line_count}
 use Rattle.xp_step.specs.declared.entry.Entry.{Entry}
 use Rattle.xp_step.specs.declared.event.Event.{Event}
 use Rattle.xp_step.specs.declared.output.Outgoing.{Outgoing}
 use Rattle.xp_core.specs.Records.{records_of}
-use Rattle.xp_core.specs.Reload.{reload_at}
+use Rattle.xp_core.specs.Reload.{MayReplace, MustGo, reload_at}
+use Rattle.xp_core.proofs.GivenUp.{may_follow}
 use Rattle.xp_machine.specs.Changes.{all_changed, recorded_by}
 use Rattle.xp_machine.specs.Channel.{is_off}
 use Rattle.xp_machine.specs.World.{World, state_at}
-use Rattle.xp_seats.specs.Handed.{is_raised, is_stall}
-use Rattle.xp_seats.specs.Recording.{Recording}
-use Rattle.xp_seats.specs.Views.{IsGrownByNone, StartsWith}
-use Rattle.xp_step.specs.Exchange.{Advances, Exchange}
+use Rattle.xp_seats.specs.Handed.{handed, is_raised, is_stall}
+use Rattle.xp_seats.specs.Views.{IsGrownByNone}
+use Rattle.xp_seats.proofs.Lists.{handed-append}
+use Rattle.xp_step.specs.Exchange.{Advances, Exchange, world_of}
 use Rattle.xp_step.specs.Effects.{effects_of}
-use Rattle.xp_step.specs.InForce.{in_force, last_of}
+use Rattle.xp_step.specs.InForce.{MayFollow, in_force, last_of}
 use Rattle.xp_step.specs.Segments.{segments_of}
 use Rattle.xp_step.specs.Step.{Step}
 use Rattle.xp_step.specs.StepContext.{step_context}
@@ -26,23 +28,17 @@ use Rattle.xp_step.specs.Table.{action_at}
 use Rattle.xp_step.specs.Worlds.{world_after}
 use Rattle.xp_step.proofs.InForce.{in_force_on}
 use Rattle.xp_lock.specs.CoreWithOutboxes.{CoreWithOutboxes}
-use Rattle.xp_lock.specs.Histories.{IsForcing}
+use Rattle.xp_lock.specs.Histories.{AreForced, AreGivenUp, Forcing, GivesUpFor, Happening, Happens, IsForcing, all_entries, entries_of}
 use Rattle.xp_lock.specs.Outgoing.{put_out_to, to_line}
+use Rattle.xp_lock.specs.Passes.{AreStalls}
 use Rattle.xp_lock.specs.Reloading.{Reloads}
 use Rattle.xp_lock.specs.steps.Outboxes.{OutboxesMatch}
+use Rattle.xp_lock.specs.steps.Stalling.{with_outboxes}
+use Rattle.xp_lock.proofs.Fresh.{all_stalls, handed_stalls}
 use Rattle.xp_lock.proofs.GivenLines.{put_more}
+use Rattle.xp_lock.proofs.GivingUp.{GivingUp}
 use Rattle.xp_lock.proofs.Histories.{forced_more}
-
--- what holds of the state before and after a call that either did something or failed and changed nothing
-pub either_way : {X E V : Type 0} (P : V → Type 0) (result : Result X E) (old new : V) → OnOk result (P new) → OnErr result (new ≡ old) → P old → P new
-either_way P (Ok x) old new done same was = done
-either_way P (Err fault) old new done same was = subst P (sym same) was
-
--- what the recorder saw goes on from what it saw before, through two calls of which the second may fail
-pub goes_on : {A X E : Type 0} (result : Result X E) (first old new : Recording A) → StartsWith old.seen first.seen → OnOk result (StartsWith new.seen old.seen) → OnErr result (new ≡ old)
-    → StartsWith new.seen first.seen
-goes_on (Ok x) first old new front more same = (front.0 ++ more.0, more.1 ∙ ap (λ xs. xs ++ more.0) front.1 ∙ append_assoc first.seen front.0 more.0)
-goes_on (Err fault) first old new front more same = subst (λ (recorder : Recording _). StartsWith recorder.seen first.seen) (sym same) front
+use Rattle.xp_lock.proofs.Queues.{filled_queues, queues}
 
 module _ {A : Type 0} where
   module _ (subs : Tables) (history : List (Entry A)) (world : World) (entry : Entry A) (next : World) (moment : ℕ)
@@ -63,11 +59,9 @@ module _ {A : Type 0} where
   put_none line entry quiet = append-nil (to_line line entry.outputs) ∙ ap (to_line line) quiet
 
   -- no stall follows
-  forcing_one : (subs : Tables) (history : List (Entry A)) (entry : Entry A) (moment : ℕ) → entry.event ≡ reload_at moment → entry.outputs ≡ []
-      → Step subs history (world_after subs history) entry (world_after subs (history ++ entry ∷ []))
-      → IsForcing subs history (record { entry = entry; stalls = []; places = λ _. 0 })
-  forcing_one subs history entry moment is quiet step = record {
-    own = ap (λ (e : Event A). is_stall e.what) is;
+  forcing_one : (subs : Tables) (history : List (Entry A)) (entry : Entry A) → entry.outputs ≡ []
+      → Step subs history (world_after subs history) entry (world_after subs (history ++ entry ∷ [])) → IsForcing subs history (record { entry = entry; stalls = []; places = λ _. 0 })
+  forcing_one subs history entry quiet step = record {
     few = omega arith;
     forces = record {
       next = world_after subs (history ++ entry ∷ []);
@@ -91,77 +85,159 @@ module _ {A : Type 0} where
         let same : world_after subs (history ++ entry ∷ []) ≡ world_after subs history = stays subs history (world_after subs history) entry _ moment is step in
         kept.places line (ap (λ w. is_off (state_at w line)) (sym same) ∙ on);
     few = few;
-    forced = forced_more subs history (history ++ entry ∷ []) (record { entry = entry; stalls = []; places = λ _. 0 }) kept.forced
-        (forcing_one subs history entry moment is quiet step) refl;
   }
 
-  -- it is an entry that no line offered
-  pub reload_grown : (old : CoreWithOutboxes A) (next : Tables) (moment : ℕ) (new : CoreWithOutboxes A) → Reloads old next moment new → IsGrownByNone old.history new.history
-  reload_grown old next moment new reloads = record {
-    more = reloads.entry ∷ [];
-    grown_is = ap (λ c. c.history) reloads.grown;
-    others = λ line.
-        let raised : is_raised reloads.entry.event.what ≡ true = ap (λ (e : Event A). is_raised e.what) reloads.event_is in
-        ap (λ b. cond (eqb reloads.entry.event.line line && not b) (reloads.entry ∷ []) []) raised ∙ neither (eqb reloads.entry.event.line line) reloads.entry;
-  } where
-    neither : (b : Bool) (entry : Entry A) → cond (b && false) (entry ∷ []) [] ≡ []
-    neither true entry = refl
-    neither false entry = refl
+  -- ---- behind the lines that were given up
 
-  pub reload_in_force : (old : CoreWithOutboxes A) (next : Tables) (moment : ℕ) (new : CoreWithOutboxes A) → Reloads old next moment new → in_force old.subs new.history ≡ next
-  reload_in_force old next moment new reloads =
-      ap (λ c. in_force old.subs c.history) reloads.grown ∙ in_force_on old.subs old.history reloads.entry ∙ ap (last_of (in_force old.subs old.history)) reloads.brought
+  module _ (core : Exchange A) (outboxes : List (Putting (Outgoing A))) (next : Tables) (moment : ℕ) (going : List ℕ) (may : MayReplace (in_force core.subs core.history) (world_of core) next)
+      (now : Exchange A) (after : List (Putting (Outgoing A))) (at : ℕ) (loop : GivingUp core outboxes next moment going now after at)
+      (none : (line : ℕ) → MustGo (in_force core.subs core.history) (world_of now) next line → ⊥) where
+    abbrev so_far : List (Entry A)
+    so_far = all_entries loop.given_up
 
-  pub reload_records : (old : CoreWithOutboxes A) (next : Tables) (moment : ℕ) (new : CoreWithOutboxes A) → Reloads old next moment new → records_of new.history ≡ records_of old.history
-  reload_records old next moment new reloads =
-      ap (λ c. records_of c.history) reloads.grown ∙ more old.history reloads.entry reloads.unrecorded
+    abbrev past : List (Entry A)
+    past = core.history ++ so_far
+
+    force_is : in_force now.subs now.history ≡ in_force core.subs core.history
+    force_is = ap (λ t. in_force t now.history) loop.subs ∙ ap (in_force core.subs) loop.history ∙ loop.stalled.force
+
+    follows_here : MayFollow (in_force core.subs core.history) (world_of now) next
+    follows_here = may_follow (in_force core.subs core.history) (world_of now) next (loop.stalled.may (in_force core.subs core.history) next may) none
+
+    -- so the reload is not refused
+    pub follows : MayFollow (in_force now.subs now.history) (world_of now) next
+    follows = subst (λ t. MayFollow t (world_of now) next) (sym force_is) follows_here
+
+    pub has_place : length now.history < now.subs.journal
+    has_place = let had = loop.places in let same = ap (λ t. t.journal) loop.subs in omega (arith, had, same)
+
+    -- the exchange after the records were taken
+    abbrev emptied : Exchange A
+    emptied = record now { given = now.given ++ now.waiting; waiting = [] }
+
+    module _ (new : Exchange A) (entry : Entry A) (advances : Advances emptied (reload_at moment) new entry) (brought : entry.tables.items ≡ next ∷ []) (quiet : entry.outputs ≡ []) where
+      abbrev StepFrom : List (Entry A) → World → Type 0
+      StepFrom history last = Step core.subs history (world_after core.subs history) entry last
+
+      step_now : Step now.subs now.history (world_of now) entry (world_of new)
+      step_now = advances.step
+
+      step_past : StepFrom past (world_of new)
+      step_past =
+          subst (λ xs. StepFrom xs (world_of new)) loop.history
+          (subst (λ t. Step t now.history (world_after t now.history) entry (world_of new)) loop.subs step_now)
+
+      history_is : new.history ≡ past ++ entry ∷ []
+      history_is = advances.history ∙ ap (λ xs. xs ++ entry ∷ []) loop.history
+
+      subs_are : new.subs ≡ core.subs
+      subs_are = advances.subs ∙ loop.subs
+
+      world_is : world_of new ≡ world_after core.subs (past ++ entry ∷ [])
+      world_is = ap (λ t. world_after t new.history) subs_are ∙ ap (world_after core.subs) history_is
+
+      step_on : StepFrom past (world_after core.subs (past ++ entry ∷ []))
+      step_on = subst (StepFrom past) world_is step_past
+
+      unrecorded : entry.records.items ≡ []
+      unrecorded = records_none core.subs past (world_after core.subs past) entry (world_of new) moment advances.event_is step_past
+
+      still : world_of new ≡ world_of now
+      still = stays now.subs now.history (world_of now) entry (world_of new) moment advances.event_is step_now
+
+      pub reloads : (taken : List Record) → taken ≡ now.waiting → Reloads (with_outboxes core outboxes) next moment taken (with_outboxes new after)
+      reloads taken is =
+          let records : taken ≡ core.waiting ++ records_of so_far = is ∙ loop.waiting in
+          let given : new.given ≡ core.given ++ taken = advances.given ∙ ap (λ xs. xs ++ now.waiting) loop.given ∙ ap (λ xs. core.given ++ xs) (sym is) in
+          let waiting : new.waiting ≡ [] = advances.waiting ∙ unrecorded in
+          record {
+            running = refl;
+            given_up = loop.given_up;
+            are_given_up = loop.are;
+            entry = entry;
+            event_is = advances.event_is;
+            brought = brought;
+            quiet = quiet;
+            unrecorded = unrecorded;
+            step = step_past;
+            out = λ line within goes.
+                let count = may.frame.count in
+                let off = follows_here.out line (omega (arith, within, count)) goes in
+                ap (λ w. is_off (state_at w line)) still ∙ off;
+            filled = loop.filled;
+            taken = records;
+            grown = λ i. record { subs = subs_are i; history = history_is i; given = given i; waiting = waiting i; outboxes = after; halted = false };
+          }
+
+      pub all_recorded : (taken : List Record) → taken ≡ now.waiting → now.given ++ now.waiting ≡ records_of now.history → core.given ++ taken ≡ records_of new.history
+      all_recorded taken is each =
+          (λ i. sym loop.given i ++ is i) ∙ each
+          ∙ sym (ap records_of advances.history ∙ sym (flat_map_more (λ (e : Entry A). e.records.items) [] now.history entry) ∙ ap (λ xs. records_of now.history ++ xs) unrecorded ∙ append-nil (records_of now.history))
+
+      pub matches : length new.history ≤ new.subs.journal → OutboxesMatch new.subs new.history after
+      matches few =
+          let long = ap length history_is in
+          let same = ap (λ t. t.journal) subs_are in
+          let kept : OutboxesMatch core.subs past after =
+          subst (λ xs. OutboxesMatch core.subs xs after) loop.history (subst (λ t. OutboxesMatch t now.history after) loop.subs loop.kept) in
+          let matched = reload_matches core.subs past after entry moment advances.event_is quiet step_on (omega (arith, few, long, same)) kept in
+          subst (λ t. OutboxesMatch t new.history after) (sym subs_are) (subst (λ xs. OutboxesMatch core.subs xs after) (sym history_is) matched)
+
+      pub forced_on : AreForced core.subs core.history → AreForced new.subs new.history
+      forced_on was =
+          let event : Forcing A = record { entry = entry; stalls = []; places = λ _. 0 } in
+          let last : Happening A = record { given_up = loop.given_up; event = event } in
+          let moment_is : moment ≡ entry.event.moment = sym (ap (λ (e : Event A). e.moment) advances.event_is) in
+          let one : Happens core.subs core.history last = record {
+            own = ap (λ (e : Event A). is_stall e.what) advances.event_is;
+            given_up = subst (λ tables. GivesUpFor core.subs core.history tables entry.event.moment loop.given_up) (sym brought)
+                (subst (λ m. AreGivenUp core.subs core.history next m loop.given_up) moment_is loop.are);
+            forced = forcing_one core.subs past entry quiet step_on;
+          } in
+          subst (λ t. AreForced t new.history) (sym subs_are)
+          (forced_more core.subs core.history new.history last was one (history_is ∙ append_assoc core.history so_far (entry ∷ [])))
+
+  -- ---- what a reload leads to
+
+  -- an entry that the exchange itself raises is no line's
+  none_handed : (line : ℕ) (entry : Entry A) (entries : List (Entry A)) → is_raised entry.event.what ≡ true → handed line entries ≡ [] → handed line (entry ∷ entries) ≡ []
+  none_handed line entry entries raised rest =
+      ap (λ b. cond (eqb entry.event.line line && not b) (entry ∷ handed line entries) (handed line entries)) raised ∙ neither (eqb entry.event.line line) ∙ rest
     where
-      more : (history : List (Entry A)) (entry : Entry A) → entry.records.items ≡ [] → records_of (history ++ entry ∷ []) ≡ records_of history
-      more [] entry none = append-nil entry.records.items ∙ none
-      more (first ∷ history) entry none = ap (λ rest. first.records.items ++ rest) (more history entry none)
+      neither : (b : Bool) → cond (b && false) (entry ∷ handed line entries) (handed line entries) ≡ handed line entries
+      neither true = refl
+      neither false = refl
 
-  -- what the exchange with its outboxes is seen as
-  abbrev pub seen_with : Exchange A → List (Putting (Outgoing A)) → Bool → CoreWithOutboxes A
-  seen_with core outboxes halted = record { subs = core.subs; history = core.history; given = core.given; waiting = core.waiting; outboxes = outboxes; halted = halted }
+  forced_stalls : (subs : Tables) (before : List (Entry A)) (forcing : Forcing A) → IsForcing subs before forcing → AreStalls forcing.stalls
+  forced_stalls subs before forcing is =
+      all_stalls subs before is.forces.next forcing.places (forcing.entry ∷ []) forcing.stalls (world_after subs (before ++ entries_of forcing)) is.forces.forced
 
-  module _ (old new : Exchange A) (entry : Entry A) (next : Tables) (moment : ℕ) (outboxes : List (Putting (Outgoing A)))
-      (advances : Advances old (reload_at moment) new entry) (quiet : entry.outputs ≡ []) where
-    abbrev grown_by_one : List (Entry A)
-    grown_by_one = old.history ++ entry ∷ []
+  none_given_up : (subs : Tables) (before : List (Entry A)) (next : Tables) (moment line : ℕ) (given_up : List (Forcing A)) → AreGivenUp subs before next moment given_up
+      → handed line (all_entries given_up) ≡ []
+  none_given_up subs before next moment line [] are = refl
+  none_given_up subs before next moment line (forcing ∷ given_up) are =
+      let raised : is_raised forcing.entry.event.what ≡ true = ap is_raised are.0.stall in
+      let stalls = handed_stalls line forcing.stalls (forced_stalls subs before forcing are.0.forced) in
+      handed-append line (entries_of forcing) (all_entries given_up)
+      ∙ (λ i. none_handed line forcing.entry forcing.stalls raised stalls i ++ none_given_up subs (before ++ entries_of forcing) next moment line given_up are.1 i)
 
-    abbrev StepTo : World → Type 0
-    StepTo world = Step old.subs old.history (world_after old.subs old.history) entry world
+  module _ (old : CoreWithOutboxes A) (next : Tables) (moment : ℕ) (taken : List Record) (new : CoreWithOutboxes A) (did : Reloads old next moment taken new) where
+    -- these are entries that no line offered
+    pub reload_grown : IsGrownByNone old.history new.history
+    reload_grown = record {
+      more = all_entries did.given_up ++ did.entry ∷ [];
+      grown_is = ap (λ c. c.history) did.grown ∙ append_assoc old.history (all_entries did.given_up) (did.entry ∷ []);
+      others = λ line.
+          let raised : is_raised did.entry.event.what ≡ true = ap (λ (e : Event A). is_raised e.what) did.event_is in
+          handed-append line (all_entries did.given_up) (did.entry ∷ [])
+          ∙ (λ i. none_given_up old.subs old.history next moment line did.given_up did.are_given_up i ++ none_handed line did.entry [] raised refl i);
+    }
 
-    step_here : StepTo (world_after old.subs grown_by_one)
-    step_here =
-        subst (λ t. StepTo (world_after t grown_by_one)) advances.subs (subst (λ h. StepTo (world_after new.subs h)) advances.history advances.step)
+    pub reload_in_force : in_force old.subs new.history ≡ next
+    reload_in_force =
+        ap (λ c. in_force old.subs c.history) did.grown ∙ in_force_on old.subs (old.history ++ all_entries did.given_up) did.entry
+        ∙ ap (last_of (in_force old.subs (old.history ++ all_entries did.given_up))) did.brought
 
-    pub matches_next : length new.history ≤ new.subs.journal → OutboxesMatch old.subs old.history outboxes → OutboxesMatch new.subs new.history outboxes
-    matches_next few kept =
-        let few_here : length grown_by_one ≤ old.subs.journal =
-        subst (λ t. length grown_by_one ≤ t.journal) advances.subs (subst (λ h. length h ≤ new.subs.journal) advances.history few) in
-        subst (λ t. OutboxesMatch t new.history outboxes) (sym advances.subs) (subst (λ h. OutboxesMatch old.subs h outboxes) (sym advances.history)
-        (reload_matches old.subs old.history outboxes entry moment advances.event_is quiet step_here few_here kept))
-
-    pub reloads_next : (halted : Bool) → halted ≡ false → entry.tables.items ≡ next ∷ [] → Reloads (seen_with old outboxes halted) next moment (seen_with new outboxes halted)
-    reloads_next halted running brought =
-        let unrecorded = records_none old.subs old.history (world_after old.subs old.history) entry _ moment advances.event_is step_here in
-        let waiting : new.waiting ≡ old.waiting = advances.waiting ∙ ap (λ more. old.waiting ++ more) unrecorded ∙ append-nil old.waiting in
-        record {
-          running = running;
-          entry = entry;
-          event_is = advances.event_is;
-          brought = brought;
-          quiet = quiet;
-          unrecorded = unrecorded;
-          step = advances.step;
-          grown = λ i. record { subs = advances.subs i; history = advances.history i; given = advances.given i; waiting = waiting i; outboxes = outboxes; halted = halted };
-        }
-
-  -- after a call of the exchange
-  pub outcome_matches : {E : Type 0} (result : Result (Entry A) E) (old new : Exchange A) (moment : ℕ) (outboxes : List (Putting (Outgoing A)))
-      → IfOk result (Advances old (reload_at moment) new) → IfOk result (λ entry. entry.outputs ≡ []) → OnErr result (new ≡ old) → length new.history ≤ new.subs.journal
-      → OutboxesMatch old.subs old.history outboxes → OutboxesMatch new.subs new.history outboxes
-  outcome_matches (Ok entry) old new moment outboxes advances quiet same few kept = matches_next old new entry old.subs moment outboxes advances quiet few kept
-  outcome_matches (Err fault) old new moment outboxes advances quiet same few kept =
-      subst (λ (core : Exchange A). OutboxesMatch core.subs core.history outboxes) (sym same) kept
+    -- each outbox is the one that it was
+    pub reload_queues : queues new.outboxes ≡ queues old.outboxes
+    reload_queues = filled_queues did.given_up old.outboxes new.outboxes did.filled

@@ -1,4 +1,5 @@
--- The stalls that an event forces (`Forces`). A line in service that takes its packets too slowly goes out of service.
+-- The stalls that an event forces (`Forces`): a line in service that takes its packets too slowly goes out of service. The event may
+-- itself be a stall, which gives up a line that goes with the next reload.
 use Rattle.std.specs.Prelude.{◌≡◌, ℕ, ◌+◌, ◌<◌, false, List, [], ◌∷◌, ◌++◌, All, length}
 use Rattle.xp_subs.specs.Tables.{Tables}
 use Rattle.xp_step.specs.declared.entry.Entry.{Entry}

@@ -2,6 +2,7 @@
 
 ghost use Rattle.std.specs.Prelude.{◌≡◌, ◌≤◌, ◌++◌, All, length};
 ghost use Rattle.xp_charge.specs.Lines.{HasLines as NamesLines};
+ghost use Rattle.xp_reload.specs.Frame.{IsSameFrame};
 ghost use Rattle.xp_subs.specs.Tables.{line_count};
 ghost use Rattle.xp_step.specs.Agreed.{AllHaveTerms};
 ghost use Rattle.xp_machine.specs.Coupling.{AreCoupled};
@@ -9,6 +10,7 @@ ghost use Rattle.xp_core.specs.Delivered.{AreDelivered};
 ghost use Rattle.xp_core.specs.Joined.{AreJoined};
 ghost use Rattle.xp_core.specs.Lines.{HasLines};
 ghost use Rattle.xp_core.specs.Records.{OneRecordEach, records_of};
+ghost use Rattle.xp_step.specs.InForce.{in_force};
 ghost use Rattle.xp_step.specs.Run.{Run};
 ghost use Rattle.xp_step.specs.Worlds.{world_after};
 ghost use Rattle.xp_core.specs.View.{flow_at};
@@ -62,7 +64,8 @@ impl<A: Allocator> Book<A> {
     /// subscriptions. Closed user groups let the stations of each live call, and of each line that a call was ever put to,
     /// be joined. The sizes of each live call are in their ranges, and what a connected call accepts arrives. The history is one
     /// event after the other, each with the stalls that it forced: three at most, each at its moment and of a line in service
-    /// that the event, or a stall before, put something out to.
+    /// that the event, or a stall before, put something out to. Only a reload has other stalls, before it: those of the lines that
+    /// must go.
     pub fn count(&self) -> u64
         ensures count { result ≡ length self.now.history }
         ensures run { Run self.now.subs self.now.history (world_after self.now.subs self.now.history) }
@@ -116,5 +119,15 @@ impl<A: Allocator> Book<A> {
         ensures { result.now ≡ self.now.subs }
     {
         self.core.subs()
+    }
+
+    /// Returns the subscriptions in force at the close. They have the frame of those with which the exchange was opened.
+    pub fn in_force(&self) -> &Subs
+        ensures force { result.now ≡ in_force self.now.subs self.now.history }
+        ensures frame { IsSameFrame self.now.subs result.now }
+    {
+        // The history says so.
+        let _ = self.core.count();
+        self.core.in_force()
     }
 }

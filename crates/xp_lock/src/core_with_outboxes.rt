@@ -5,15 +5,17 @@ ghost use Rattle.xp_charge.specs.Lines.{HasLines as NamesLines};
 ghost use Rattle.xp_subs.specs.Tables.{line_count};
 ghost use Rattle.xp_step.specs.Exchange.{IsReadable};
 ghost use Rattle.xp_core.specs.Records.{records_of};
+ghost use Rattle.xp_lock.specs.Histories.{AreForced};
 ghost use Rattle.xp_lock.specs.Outboxes.{HaveCapacity};
 ghost use Rattle.xp_lock.specs.steps.Outboxes.{OutboxesMatch};
-ghost use Rattle.xp_seats.specs.Handed.{is_stall};
+ghost use Rattle.xp_seats.specs.Handed.{is_raised};
 ghost use Rattle.xp_lock.specs.Outgoing.{put_out_to};
 ghost use Rattle.xp_lock.specs.CoreWithOutboxes.{Refuses, Takes, is_up};
 ghost use Rattle.xp_lock.specs.Reloading.{RefusesReload, Reloads};
 
 use crate::entering::enter;
 use crate::fault::{OfferFault, ReloadRefusal};
+use crate::giving_up::{bring_into_force, prepare_reload};
 use crate::outboxes::{OutboxPutEnd, OutboxTakeEnd, has_room, tell_put};
 use crate::receipt::Receipt;
 use std::alloc::{AllocError, Allocator};
@@ -21,7 +23,7 @@ use std::marker::Model;
 use std::sync::Wait;
 use xp_charge::Record;
 use xp_core::Core;
-use xp_step::{Event, What};
+use xp_step::{Event, MOST_STALLS, What};
 use xp_subs::{LineNo, Subs};
 
 /// How many places of the history must be left: one for the event, and three for the stalls that it may force.
@@ -40,11 +42,13 @@ impl<A: Allocator> Model for CoreWithOutboxes<A> {
 
     ghost Value = { Seen A };
 
+    ghost use Rattle.std.specs.Prelude.{◌≡◌};
+    ghost use Rattle.xp_lock.specs.Histories.{AreForced};
     ghost use Rattle.xp_lock.specs.steps.Outboxes.{OutboxesMatch};
 
     ghost view = { λ s. record { subs = s.core.subs; history = s.core.history; given = s.core.given; waiting = s.core.waiting; outboxes = s.outboxes.items; halted = s.halted } };
 
-    ghost invariant = { λ s. OutboxesMatch s.core.subs s.core.history s.outboxes.items };
+    ghost invariant = { λ s. OutboxesMatch s.core.subs s.core.history s.outboxes.items × AreForced s.core.subs s.core.history };
 }
 
 /// Whether an event is an Up.
@@ -57,7 +61,8 @@ fn comes_up<A: Allocator>(what: &What<A>) -> bool
 impl<A: Allocator + Copy> CoreWithOutboxes<A> {
     /// The exchange of this core and these outboxes. It is not halted.
     pub fn new(core: Core<A>, outboxes: Vec<OutboxPutEnd<A>, A>) -> CoreWithOutboxes<A>
-        requires { OutboxesMatch core.subs core.history outboxes.items }
+        requires kept { OutboxesMatch core.subs core.history outboxes.items }
+        requires forced { AreForced core.subs core.history }
         ensures { result ≡ record { subs = core.subs; history = core.history; given = core.given; waiting = core.waiting; outboxes = outboxes.items; halted = false } }
     {
         CoreWithOutboxes {
@@ -83,7 +88,7 @@ impl<A: Allocator + Copy> CoreWithOutboxes<A> {
     pub fn take<R: Wait>(&mut self, rt: &R, event: Event<A>) -> Result<Receipt, OfferFault<A>>
         requires line { event.line < line_count self.old.subs }
         requires readable { IsReadable event.what }
-        requires kind { is_stall event.what ≡ false }
+        requires kind { is_raised event.what ≡ false }
         ensures ok { IfOk result (λ done. Takes self.old event done self.new) }
         ensures err { IfErr result (λ fault. Refuses self.old event fault self.new) }
         ensures capacities { HaveCapacity (line_count self.new.subs) self.new.outboxes }
@@ -98,29 +103,44 @@ impl<A: Allocator + Copy> CoreWithOutboxes<A> {
         if !has_room(rt, &mut self.outboxes, event.line, up) {
             return Err(OfferFault::NoRoom(event));
         }
+        if self.core.reserve_stalls(MOST_STALLS).is_err() {
+            return Err(OfferFault::Memory(event));
+        }
         let done = enter(rt, &mut self.core, &mut self.outboxes, event)?;
         Ok(done)
     }
 
-    /// Puts other subscriptions into force at this moment. It allocates nothing.
+    /// Gives up the lines that must go before these subscriptions come into force, hands over the charging records that wait then, and
+    /// puts the subscriptions into force, all at this moment. It allocates first.
     ///
     /// # Errors
     ///
-    /// `Halted`: the exchange was halted. `Refused`: they cannot come into force now. Nothing has changed.
-    pub fn reload(&mut self, next: Subs, moment: u64) -> Result<(), ReloadRefusal>
-        ensures ok { OnOk result (Reloads self.old next moment self.new) }
+    /// `Halted`: the exchange was halted. `Refused`: the subscriptions cannot come into force now, or the history has fewer than four
+    /// places for each line that must go, and one. `Memory`: an allocation failed. Nothing has changed.
+    pub fn reload<R: Wait>(
+        &mut self,
+        rt: &R,
+        next: Subs,
+        moment: u64,
+    ) -> Result<Vec<Record, A>, ReloadRefusal>
+        ensures ok { IfOk result (λ taken. Reloads self.old next moment taken.items self.new) }
+        ensures each { IfOk result (λ taken. self.old.given ++ taken.items ≡ records_of self.new.history) }
+        ensures lines { IfOk result (λ taken. All (NamesLines (line_count self.old.subs)) taken.items) }
         ensures refused { IfErr result (RefusesReload self.old next) }
         ensures err { OnErr result (self.new ≡ self.old) }
     {
         if self.halted {
             return Err(ReloadRefusal::Halted);
         }
-        let reloaded = self.core.reload(next, moment);
-        let _few = self.core.count();
-        match reloaded {
-            Ok(_entry) => Ok(()),
-            Err(fault) => Err(ReloadRefusal::Refused(fault)),
-        }
+        let prepared = prepare_reload(&mut self.core, &next)?;
+        Ok(bring_into_force(
+            rt,
+            &mut self.core,
+            &mut self.outboxes,
+            prepared,
+            next,
+            moment,
+        ))
     }
 
     /// Hands over the charging records that wait, in the order in which their calls ended.
@@ -165,6 +185,7 @@ impl<A: Allocator + Copy> CoreWithOutboxes<A> {
         ensures waiting { result.0.waiting ≡ self.waiting }
         ensures outboxes { result.1.items ≡ self.outboxes }
         ensures kept { OutboxesMatch self.subs self.history self.outboxes }
+        ensures forced { AreForced self.subs self.history }
     {
         let CoreWithOutboxes {
             core,

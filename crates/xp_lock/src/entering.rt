@@ -1,8 +1,9 @@
 //! How an event is entered, with all that follows from it.
 
-ghost use Rattle.std.specs.Prelude.{◌≡◌, ◌<◌, IfOk, IfErr, OnErr, OnOk};
+ghost use Rattle.std.specs.Prelude.{◌≡◌, ◌+◌, ◌<◌, ◌≤◌, true, IfOk, IfErr, IsOk, OnErr, OnOk};
 ghost use Rattle.xp_subs.specs.Tables.{line_count};
 ghost use Rattle.xp_step.specs.Exchange.{IsReadable};
+ghost use Rattle.xp_step.specs.Stalls.{is_stall, left_after};
 ghost use Rattle.xp_lock.specs.steps.Outboxes.{OutboxesMatch};
 ghost use Rattle.xp_lock.specs.steps.Stalling.{CanEnter, HasTaken, with_outboxes};
 
@@ -17,7 +18,8 @@ use xp_core::{Core, StepFault};
 use xp_step::{Entry, Event};
 
 /// Enters an event, puts its outputs into the outboxes, and stalls the lines that are then due, the lowest first, at its moment,
-/// until none is due. The stalls are prepared first, so that nothing can fail once the event is entered.
+/// until none is due. Three stalls are prepared besides the event's own, so that nothing can fail once the event is entered. The event
+/// may be a stall, and then nothing fails at all.
 pub fn enter<A: Allocator + Copy, R: Wait>(
     rt: &R,
     core: &mut Core<A>,
@@ -27,15 +29,15 @@ pub fn enter<A: Allocator + Copy, R: Wait>(
     requires line { event.line < line_count core.old.subs }
     requires readable { IsReadable event.what }
     requires can { CanEnter (with_outboxes core.old outboxes.old.items) event }
+    requires prepared { 3 ≤ left_after event.what core.old.stalls }
     ensures ok { IfOk result (λ done. HasTaken core.old outboxes.old.items event done core.new outboxes.new.items) }
     ensures kept { OnOk result (OutboxesMatch core.new.subs core.new.history outboxes.new.items) }
+    ensures stalls { core.old.stalls ≤ core.new.stalls + 4 }
+    ensures stall { is_stall event.what ≡ true → IsOk result }
     ensures err { IfErr result (λ fault. fault ≡ OfferFault.Memory event) }
-    ensures core { OnErr result (core.new ≡ record core.old { stalls = core.new.stalls }) }
+    ensures core { OnErr result (core.new ≡ core.old) }
     ensures outboxes { OnErr result (outboxes.new.items ≡ outboxes.old.items) }
 {
-    if core.reserve_stalls().is_err() {
-        return Err(OfferFault::Memory(event));
-    }
     let line = event.line;
     let moment = event.moment;
     let _legal = core.count();

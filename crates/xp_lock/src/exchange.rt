@@ -1,6 +1,6 @@
 //! The exchange that threads share.
 
-ghost use Rattle.std.specs.Prelude.{◌≡◌, [], ◌∷◌, ◌++◌, None, false, All, IfErr, IfNone, IfOk, IfSome, OnErr, OnOk, length, replicate};
+ghost use Rattle.std.specs.Prelude.{◌≡◌, [], ◌∷◌, ◌++◌, false, All, IfErr, IfNone, IfOk, IfSome, OnErr, OnOk, length, replicate};
 ghost use mathlib.Core.List.{IsPrefix};
 ghost use Rattle.xp_charge.specs.Lines.{HasLines as NamesLines};
 ghost use Rattle.xp_subs.specs.Tables.{line_count};
@@ -17,10 +17,10 @@ ghost use Rattle.xp_step.specs.InForce.{in_force};
 ghost use Rattle.xp_view.specs.Views.{Shows};
 
 use crate::book::Book;
-use crate::fault::{CloseFault, OfferFault};
+use crate::fault::{CloseFault, OfferFault, ReloadRefusal};
 use crate::guard::ExchangeGuard;
 use crate::keeper::Keeper;
-use crate::look::{Look, Reloading};
+use crate::look::Look;
 use crate::missing::first_missing;
 use crate::pass::LinePass;
 use crate::receipt::Receipt;
@@ -187,30 +187,31 @@ impl<N: Name, A: Allocator + Copy> Exchange<N, A> {
         self.lock(rt).look(alloc, recorder)
     }
 
-    /// Takes the lock, hands over the charging records that wait, as `take_records` does, and then puts other subscriptions into
-    /// force at this moment, or tells why not. Where they come into force, the recorder knows a history in which they are.
+    /// Takes the lock, gives up the lines that must go before other subscriptions come into force, hands over the charging records that
+    /// wait then, as `take_records` does, and puts the subscriptions into force, all at this moment. A line must go that is in service,
+    /// and that its place does not keep: its call ends, its connection is closed, and its far end is told, as for every stall. The
+    /// recorder knows a history in which these subscriptions are in force.
     ///
     /// # Errors
     ///
-    /// `AllocError` if an allocation fails. Then no record was handed over, nothing has come into force, and the recorder stays as
-    /// it was.
+    /// Those of `Keeper::reload`. Then nothing has changed, no record was handed over, and the recorder stays as it was.
     pub fn reload<R: Wait>(
         &self,
         rt: &R,
         recorder: &mut Recorder<N, A>,
         next: Subs,
         moment: u64,
-    ) -> Result<Reloading<A>, AllocError>
-        ensures taken { IfOk result (λ done. recorder.new.received ≡ recorder.old.received ++ done.records.items) }
+    ) -> Result<Vec<Record, A>, ReloadRefusal>
+        ensures taken { IfOk result (λ taken. recorder.new.received ≡ recorder.old.received ++ taken.items) }
         ensures each { OnOk result (recorder.new.received ≡ records_of recorder.new.seen) }
         ensures seen { OnOk result (StartsWith recorder.new.seen recorder.old.seen) }
         ensures legal { OnOk result (IsLegal N.subs recorder.new.seen) }
         ensures one_each { OnOk result (OneRecordEach N.subs recorder.new.seen (world_after N.subs recorder.new.seen)) }
-        ensures lines { IfOk result (λ done. All (NamesLines (line_count N.subs)) done.records.items) }
-        ensures in_force { IfOk result (λ done. done.refusal ≡ None → in_force N.subs recorder.new.seen ≡ next) }
+        ensures lines { IfOk result (λ taken. All (NamesLines (line_count N.subs)) taken.items) }
+        ensures in_force { OnOk result (in_force N.subs recorder.new.seen ≡ next) }
         ensures err { OnErr result (recorder.new ≡ recorder.old) }
     {
-        self.lock(rt).reload(recorder, next, moment)
+        self.lock(rt).reload(rt, recorder, next, moment)
     }
 
     /// Makes the exchange refuse every later offer.

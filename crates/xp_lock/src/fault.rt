@@ -35,6 +35,9 @@ pub enum ReloadRefusal {
     /// They cannot come into force now.
     #[error("{0}")]
     Refused(ReloadFault),
+    /// An allocation failed.
+    #[error("out of memory")]
+    Memory,
 }
 
 /// Why an exchange was not closed: the pass of a line is not here. The fault gives the exchange, the passes and the recorder back.

@@ -1,6 +1,6 @@
 //! The exchange while a thread holds its lock.
 
-ghost use Rattle.std.specs.Prelude.{◌≡◌, ◌++◌, None, false, All, IfErr, IfOk, OnErr, OnOk};
+ghost use Rattle.std.specs.Prelude.{◌≡◌, ◌++◌, false, All, IfErr, IfOk, OnErr, OnOk};
 ghost use Rattle.xp_charge.specs.Lines.{HasLines as NamesLines};
 ghost use Rattle.xp_subs.specs.Tables.{line_count};
 ghost use Rattle.xp_step.specs.Exchange.{IsReadable};
@@ -13,9 +13,9 @@ ghost use Rattle.xp_seats.specs.Views.{StartsWith};
 ghost use Rattle.xp_step.specs.InForce.{in_force};
 ghost use Rattle.xp_view.specs.Views.{Shows};
 
-use crate::fault::OfferFault;
+use crate::fault::{OfferFault, ReloadRefusal};
 use crate::keeper::Keeper;
-use crate::look::{Look, Reloading};
+use crate::look::Look;
 use crate::pass::LinePass;
 use crate::receipt::Receipt;
 use std::alloc::{AllocError, Allocator, Global};
@@ -101,34 +101,32 @@ impl<'a, N: Name, A: Allocator + Copy> ExchangeGuard<'a, N, A> {
         self.keeper.take_records(self.history_length, recorder)
     }
 
-    /// Hands over the charging records that wait, as `take_records` does, and then puts other subscriptions into force at this
-    /// moment, or tells why not. Where they come into force, the recorder knows a history in which they are.
+    /// Gives up the lines that must go before other subscriptions come into force, hands over the charging records that wait then, as
+    /// `take_records` does, and puts the subscriptions into force, all at this moment. A line must go that is in service, and that its
+    /// place does not keep: its call ends, its connection is closed, and its far end is told, as for every stall. The recorder knows a
+    /// history in which these subscriptions are in force.
     ///
     /// # Errors
     ///
-    /// `AllocError` if an allocation fails. Then no record was handed over, nothing has come into force, and the recorder stays as
-    /// it was.
-    pub fn reload(
+    /// Those of `Keeper::reload`. Then nothing has changed, no record was handed over, and the recorder stays as it was.
+    pub fn reload<R: Wait>(
         &mut self,
+        rt: &R,
         recorder: &mut Recorder<N, A>,
         next: Subs,
         moment: u64,
-    ) -> Result<Reloading<A>, AllocError>
-        ensures taken { IfOk result (λ done. recorder.new.received ≡ recorder.old.received ++ done.records.items) }
+    ) -> Result<Vec<Record, A>, ReloadRefusal>
+        ensures taken { IfOk result (λ taken. recorder.new.received ≡ recorder.old.received ++ taken.items) }
         ensures each { OnOk result (recorder.new.received ≡ records_of recorder.new.seen) }
         ensures seen { OnOk result (StartsWith recorder.new.seen recorder.old.seen) }
         ensures legal { OnOk result (IsLegal N.subs recorder.new.seen) }
         ensures one_each { OnOk result (OneRecordEach N.subs recorder.new.seen (world_after N.subs recorder.new.seen)) }
-        ensures lines { IfOk result (λ done. All (NamesLines (line_count N.subs)) done.records.items) }
-        ensures in_force { IfOk result (λ done. done.refusal ≡ None → in_force N.subs recorder.new.seen ≡ next) }
+        ensures lines { IfOk result (λ taken. All (NamesLines (line_count N.subs)) taken.items) }
+        ensures in_force { OnOk result (in_force N.subs recorder.new.seen ≡ next) }
         ensures err { OnErr result (recorder.new ≡ recorder.old) }
     {
-        let records = self.keeper.take_records(self.history_length, recorder)?;
-        let refusal = self
-            .keeper
-            .reload(self.history_length, recorder, next, moment)
-            .err();
-        Ok(Reloading { records, refusal })
+        self.keeper
+            .reload(rt, self.history_length, recorder, next, moment)
     }
 
     /// Hands over the charging records that wait, as `take_records` does, and shows the exchange as it is then: each line, and the

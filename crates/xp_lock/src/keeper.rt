@@ -159,42 +159,50 @@ impl<N: Name, A: Allocator + Copy> Keeper<N, A> {
         Ok(taken)
     }
 
-    /// Puts other subscriptions into force at this moment, where no record waits. The recorder then has seen the whole history,
-    /// and the subscriptions in force are these.
+    /// Gives up the lines that must go before these subscriptions come into force, hands over the charging records that wait then, as
+    /// `take_records` does, and puts the subscriptions into force, all at this moment. The recorder then has seen the whole history,
+    /// and has received its records, each once.
     ///
     /// # Errors
     ///
-    /// `Halted`: the exchange was halted. `Refused`: they cannot come into force now. Nothing has changed, and the recorder stays
-    /// as it was.
-    pub fn reload(
+    /// `Halted`: the exchange was halted. `Refused`: the subscriptions cannot come into force now, or the history has fewer than four
+    /// places for each line that must go, and one. `Memory`: an allocation failed. Nothing has changed, no record was handed over,
+    /// and the recorder stays as it was.
+    pub fn reload<R: Wait>(
         &mut self,
+        rt: &R,
         history_length: &HistoryLength<A>,
         recorder: &mut Recorder<N, A>,
         next: Subs,
         moment: u64,
-    ) -> Result<(), ReloadRefusal>
+    ) -> Result<Vec<Record, A>, ReloadRefusal>
         requires history_length { history_length.now ≡ N.history_length }
-        requires none { self.old.waiting ≡ [] }
-        ensures ok { OnOk result (Reloads self.old next moment self.new) }
+        ensures ok { IfOk result (λ taken. Reloads self.old next moment taken.items self.new) }
         ensures refused { IfErr result (RefusesReload self.old next) }
         ensures err { OnErr result (self.new ≡ self.old) }
+        ensures taken { IfOk result (λ taken. recorder.new.received ≡ recorder.old.received ++ taken.items) }
         ensures shown { OnOk result (recorder.new.seen ≡ self.new.history) }
-        ensures received { recorder.new.received ≡ recorder.old.received }
         ensures each { OnOk result (recorder.new.received ≡ records_of recorder.new.seen) }
         ensures seen { OnOk result (StartsWith recorder.new.seen recorder.old.seen) }
         ensures legal { OnOk result (IsLegal N.subs recorder.new.seen) }
         ensures one_each { OnOk result (OneRecordEach N.subs recorder.new.seen (world_after N.subs recorder.new.seen)) }
+        ensures lines { IfOk result (λ taken. All (NamesLines (line_count N.subs)) taken.items) }
         ensures in_force { OnOk result (in_force N.subs recorder.new.seen ≡ next) }
         ensures recorder { OnErr result (recorder.new ≡ recorder.old) }
     {
         let before = self.core_with_outboxes.core().count();
-        self.core_with_outboxes.reload(next, moment)?;
+        let taken = self.core_with_outboxes.reload(rt, next, moment)?;
         let core = self.core_with_outboxes.core();
         let _legal = core.count();
         let _records = core.records();
         history_length.extend(&mut self.history_seat, core, before);
-        recorder.receive(history_length, &mut self.history_seat, core, &[]);
-        Ok(())
+        recorder.receive(
+            history_length,
+            &mut self.history_seat,
+            core,
+            taken.as_slice(),
+        );
+        Ok(taken)
     }
 
     /// What can be seen of the exchange now.

@@ -1,4 +1,3 @@
-use crate::fault::ReloadRefusal;
 use std::alloc::{Allocator, Global};
 use xp_charge::Record;
 use xp_view::ExchangeView;
@@ -10,14 +9,4 @@ pub struct Look<A: Allocator = Global> {
     pub records: Vec<Record, A>,
     /// What can be seen of the exchange at that moment.
     pub view: ExchangeView<A>,
-}
-
-/// What becomes of a reload.
-#[derive(Drop)]
-pub struct Reloading<A: Allocator = Global> {
-    /// The charging records that waited before it, in the order in which the calls ended. The subscriptions before it tell their
-    /// lines and addresses.
-    pub records: Vec<Record, A>,
-    /// Why it was refused, if it was.
-    pub refusal: Option<ReloadRefusal>,
 }

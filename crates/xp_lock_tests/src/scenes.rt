@@ -32,6 +32,9 @@ use xp_testing::{Refusing, THREE_STATIONS};
 ///
 /// Other subscriptions: where b1 is barred, a1 is refused, and the record is handed over as b1 is open again; then b1 is rung. Of seven
 /// entries two are reloads.
+///
+/// A line that goes in a call: b1 is given up as its place becomes spare. Its record is handed over, a1 is told a clear indication, and
+/// b1 that its connection is closed. Nobody has its address then. Once b1 is back in its place, it is called.
 const SCENES: &str = "a1 up b1 up at=1 a1 call halt at=2 b1 accepted takes
 = 0 1 halted 1 call 0 0 3 0 1 0 received 0 missing 4
 
@@ -60,7 +63,14 @@ barred
 a1 call takes confirmation
 open
 a1 ?call b1 takes
-= 0 0 1 clear 11 70 1 0 1 1 call 0 0 7 1 1 1 received 1 missing 4";
+= 0 0 1 clear 11 70 1 0 1 1 call 0 0 7 1 1 1 received 1 missing 4
+
+a1 up b1 up a1 ?call at=10 b1 accepted at=20
+gone
+a1 takes b1 takes at=30 a1 confirmation call takes confirmation
+open
+b1 up a1 ?call b1 takes
+= 1 1 0 2 clear 9 0 2 close 0 0 1 clear 13 67 1 0 1 1 call 0 0 12 3 3 2 received 2 missing 4";
 
 /// b1 is stalled, and the record is taken.
 const REFUSED: &str = "a1 up b1 up a1 call b1 accepted

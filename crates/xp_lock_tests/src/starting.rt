@@ -6,7 +6,7 @@ ghost use Rattle.std.specs.Prelude.{◌≡◌};
 
 use crate::log::Log;
 use crate::playing::{play, take_records};
-use std::alloc::{AllocError, Allocator};
+use std::alloc::{AllocError, Allocator, Global};
 use std::sync::Wait;
 use xp_lock::{CloseFault, Exchange, LinePass, PreparedExchange};
 use xp_seats::{Name, Recorder};
@@ -33,8 +33,17 @@ address = "2080030"
 line = [{ name = "h1", port = 19983 }, { name = "h2", port = 19984, address = "2080032" }, { name = "h3", port = 19985 }]
 "#;
 
-/// Plays a scene of scripts, a line each: `records` takes the records that wait, and tells the number of the last; `barred` and `open` put
-/// other subscriptions into force. Nothing is told where memory is wanting at the start.
+/// The stations without that of b1, whose place is spare then.
+const GONE: &str = r#"[[station]]
+address = "2080010"
+line = [{ name = "a1", port = 19981 }]
+[[station]]
+address = "2080030"
+line = [{ name = "h1", port = 19983 }, { name = "h2", port = 19984, address = "2080032" }, { name = "h3", port = 19985 }]
+"#;
+
+/// Plays a scene of scripts, a line each: `records` takes the records that wait, and tells the number of the last; `barred`, `gone` and
+/// `open` put other subscriptions into force. Nothing is told where memory is wanting at the start.
 pub fn scene<N: Name, A: Allocator + Copy>(
     rt: &impl Wait,
     alloc: A,
@@ -55,6 +64,7 @@ pub fn scene<N: Name, A: Allocator + Copy>(
         let done = match script {
             "records" => tell_records(rt, &exchange, &mut recorder, &mut log),
             "barred" => reload(rt, &exchange, &mut recorder, BARRED, &mut log),
+            "gone" => reload(rt, &exchange, &mut recorder, GONE, &mut log),
             "open" => reload(rt, &exchange, &mut recorder, THREE_STATIONS, &mut log),
             _ => play(rt, alloc, &exchange, &mut passes, script, &mut log),
         };
@@ -78,7 +88,7 @@ fn tell_records<N: Name, A: Allocator + Copy>(
     log.tell_numbers(&[log.record])
 }
 
-/// Puts these subscriptions into force, and tells how many records were handed over before, and whether it was refused.
+/// Puts these subscriptions into force, and tells how many records were handed over, and whether it was refused.
 fn reload<N: Name, A: Allocator + Copy>(
     rt: &impl Wait,
     exchange: &Exchange<N, A>,
@@ -86,12 +96,24 @@ fn reload<N: Name, A: Allocator + Copy>(
     text: &str,
     log: &mut Log,
 ) -> Result<(), AllocError> {
-    let Ok(subs) = Subs::read(log.alloc, text) else {
+    let Some(next) = laid(log.alloc, text) else {
         return Err(AllocError);
     };
-    let done = exchange.lock(rt).reload(recorder, subs, log.moment)?;
-    let records = done.records.len() as u64;
-    log.tell_numbers(&[records, u64::from(done.refusal.is_some())])
+    let mut guard = exchange.lock(rt);
+    match guard.reload(rt, recorder, next, log.moment) {
+        Ok(records) => {
+            log.note_records(&records)?;
+            log.tell_numbers(&[records.len() as u64, 0])
+        }
+        Err(_) => log.tell_numbers(&[0, 1]),
+    }
+}
+
+/// These subscriptions, laid over those of the start.
+fn laid(alloc: Global, text: &str) -> Option<Subs> {
+    let first = Subs::read(alloc, THREE_STATIONS).ok()?;
+    let next = Subs::read(alloc, text).ok()?;
+    first.laid_over(alloc, next).ok()
 }
 
 /// Tells how many records the recorder received. Closes the exchange without the last pass, and tells the line whose pass is

@@ -1,5 +1,6 @@
 -- What is shown of the lines of an exchange.
-use Rattle.std.specs.Prelude.{◌≡◌, ℕ, List, Some, length, map, min, slice_get, string_bytes, unwrap_or}
+use Rattle.std.specs.Prelude.{◌≡◌, ◌==◌, ℕ, List, Bool, not, count_by, filter, length, map, string_bytes, unwrap_or}
+use Rattle.std.specs.List.{AllZip, zip}
 use Rattle.std.specs.declared.alloc.Global.{Global as Alloc}
 use Rattle.xp_channel.specs.declared.channel.Channel.{Channel}
 use Rattle.xp_channel.specs.declared.channel.Channel.TheVariants.{Off, P1, P2, P3, P4, P7}
@@ -59,15 +60,23 @@ pub record IsShownAs (names : LineNames) (seen : LineView) (shown : LineStatus) 
   pub state_is : shown.state ≡ state_of seen.channel
   pub call_is : shown.call ≡ seen.call
 
--- lines that are named so are shown as they are seen, in order: as many as have names and are seen
-pub record AreShown (names : List LineNames) (seen : List LineWithCall) (shown : List LineStatus) : Type 0 where
-  pub count : length shown ≡ min (length names) (length seen)
-  pub each : (line : ℕ) (name : LineNames) (view : LineWithCall) (status : LineStatus) → slice_get names line ≡ Some name
-      → slice_get seen line ≡ Some view → slice_get shown line ≡ Some status → IsShownAs name view.line status
+-- a spare place has no name
+abbrev pub has_no_name : LineNames → Bool
+has_no_name names = length names.name == 0
 
--- this status shows lines that are named so as they are seen in this view, and as many events and stalls as that has
+-- the places that have a line, each with how it is named and seen
+abbrev pub places_of : List LineNames → List LineWithCall → List (LineNames × LineWithCall)
+places_of names seen = filter (λ place. not (has_no_name place.0)) (zip names seen)
+
+-- lines that are named so are shown as they are seen, in order, and nothing is shown of spare places
+abbrev pub AreShown : List LineNames → List LineWithCall → List LineStatus → Type 0
+AreShown names seen shown = AllZip (λ place status. IsShownAs place.0 place.1.line status) (places_of names seen) shown
+
+-- this status shows lines that are named so as they are seen in this view, how many places are spare, and as many events and stalls as
+-- the view has
 pub record IsStatusOf (names : List LineNames) (view : ExchangeView Alloc) (status : ExchangeStatus) : Type 0 where
   pub lines_are : AreShown names view.lines.items status.lines.items
+  pub spare_are : status.spare_lines ≡ count_by has_no_name names
   pub events_are : status.totals.events ≡ view.entries
   pub stalls_are : status.totals.stalls ≡ view.stalls
 

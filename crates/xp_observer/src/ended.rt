@@ -4,15 +4,48 @@ use crate::lines::NamedLine;
 use std::alloc::{AllocError, Global};
 use xp_charge::Record;
 use xp_console::{EndedCall, Party, Payer};
+use xp_file::Name;
 use xp_packets::{Digits, End};
 use xp_subs::LineNo;
 
-/// A call that has ended, with the addresses that its lines had as it did.
+/// A line as a party to a call that has ended, by the name and the address that it had as the call did.
+#[derive(Drop)]
+struct NotedParty {
+    line: Name,
+    address: Digits,
+}
+
+impl NotedParty {
+    /// This line, where the lines are named so.
+    fn of(lines: &[NamedLine], line: LineNo) -> NotedParty {
+        match lines.get(usize::from(line)) {
+            Some(line) => NotedParty {
+                line: line.name.copy(),
+                address: line.address.copy(),
+            },
+            None => NotedParty {
+                line: Name::none(),
+                address: Digits::new(),
+            },
+        }
+    }
+
+    /// What is shown of it.
+    fn party(&self, alloc: Global) -> Result<Party, AllocError> {
+        Ok(Party {
+            line: String::from_str(alloc, self.line.as_str())?,
+            address: self.address.to_string(alloc)?,
+        })
+    }
+}
+
+/// A call that has ended.
 #[derive(Drop)]
 pub(crate) struct NotedCall {
     record: Record,
-    caller: Digits,
-    called: Option<Digits>,
+    caller: NotedParty,
+    /// The line that the call was offered to, if it was.
+    called: Option<NotedParty>,
 }
 
 impl NotedCall {
@@ -20,22 +53,18 @@ impl NotedCall {
     pub(crate) fn of(lines: &[NamedLine], record: &Record) -> NotedCall {
         NotedCall {
             record: record.copy(),
-            caller: address_in(lines, record.caller),
-            called: record.called.map(|line| address_in(lines, line)),
+            caller: NotedParty::of(lines, record.caller),
+            called: record.called.map(|line| NotedParty::of(lines, line)),
         }
     }
 
-    /// What is shown of the call. The names of lines stay, and these lines have them.
-    pub(crate) fn shown(
-        &self,
-        alloc: Global,
-        lines: &[NamedLine],
-    ) -> Result<EndedCall, AllocError> {
+    /// What is shown of the call.
+    pub(crate) fn shown(&self, alloc: Global) -> Result<EndedCall, AllocError> {
         let record = &self.record;
         Ok(EndedCall {
             number: record.number,
-            caller: party_at(alloc, lines, record.caller, &self.caller)?,
-            called: self.called_party(alloc, lines)?,
+            caller: self.caller.party(alloc)?,
+            called: self.called_party(alloc)?,
             dialled: record.dialled.to_string(alloc)?,
             payer: payer_of(record.payer),
             segments_from_caller: u64::from(record.from_caller),
@@ -50,41 +79,12 @@ impl NotedCall {
     }
 
     /// The line that the call was offered to, if it was.
-    fn called_party(
-        &self,
-        alloc: Global,
-        lines: &[NamedLine],
-    ) -> Result<Option<Party>, AllocError> {
-        match (self.record.called, &self.called) {
-            (Some(line), Some(address)) => Ok(Some(party_at(alloc, lines, line, address)?)),
-            _ => Ok(None),
+    fn called_party(&self, alloc: Global) -> Result<Option<Party>, AllocError> {
+        match &self.called {
+            Some(called) => Ok(Some(called.party(alloc)?)),
+            None => Ok(None),
         }
     }
-}
-
-/// The address of a line among these.
-fn address_in(lines: &[NamedLine], line: LineNo) -> Digits {
-    match lines.get(usize::from(line)) {
-        Some(line) => line.address.copy(),
-        None => Digits::new(),
-    }
-}
-
-/// A line as a party to a call, with the address that it had.
-fn party_at(
-    alloc: Global,
-    lines: &[NamedLine],
-    line: LineNo,
-    address: &Digits,
-) -> Result<Party, AllocError> {
-    let name = match lines.get(usize::from(line)) {
-        Some(line) => String::from_str(alloc, line.name.as_str())?,
-        None => String::new(alloc),
-    };
-    Ok(Party {
-        line: name,
-        address: address.to_string(alloc)?,
-    })
 }
 
 fn payer_of(end: End) -> Payer {

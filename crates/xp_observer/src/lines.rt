@@ -1,7 +1,7 @@
 //! What is shown of a line.
 
 ghost use Rattle.std.specs.Prelude.{◌≡◌, IfOk};
-ghost use Rattle.xp_observer.specs.Shown.{IsShownAs, names_in, state_of};
+ghost use Rattle.xp_observer.specs.Shown.{IsShownAs, has_no_name, names_in, state_of};
 
 use std::alloc::{AllocError, Global};
 use std::net::SocketAddr;
@@ -52,6 +52,13 @@ impl LineNotes {
 }
 
 impl NamedLine {
+    /// Whether it is a spare place: it has no name.
+    pub(crate) fn is_spare(&self) -> bool
+        ensures { result ≡ has_no_name (names_in self.now) }
+    {
+        self.name.as_str().is_empty()
+    }
+
     /// What is shown of the line.
     pub(crate) fn status(
         &self,

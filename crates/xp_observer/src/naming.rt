@@ -4,16 +4,18 @@ ghost use Rattle.std.specs.Prelude.{◌≡◌, IfOk, map};
 ghost use Rattle.xp_observer.specs.Shown.{names_in, names_of};
 
 use crate::lines::NamedLine;
+use crate::routers::Routers;
 use crate::stations::Stations;
 use std::alloc::{AllocError, Global};
 use std::marker::Model;
 use xp_subs::{LineNo, Subs};
 
-/// The names and addresses of lines, and the addresses of stations, by subscriptions. Contracts see how the lines are named.
+/// The names and addresses of lines, their routers, and the addresses of stations, by subscriptions. Contracts see how the lines are named.
 #[derive(Drop)]
 pub struct Naming {
     pub(crate) lines: Vec<NamedLine>,
     pub(crate) stations: Stations,
+    pub(crate) routers: Routers,
 }
 
 impl Model for Naming {
@@ -35,12 +37,17 @@ impl Naming {
         ensures { IfOk result (λ naming. naming ≡ names_of subs.now) }
     {
         let stations = Stations::new(alloc, subs)?;
+        let routers = Routers::new(alloc, subs)?;
         let lines = named_lines(alloc, subs)?;
-        Ok(Naming { lines, stations })
+        Ok(Naming {
+            lines,
+            stations,
+            routers,
+        })
     }
 }
 
-/// The lines of these subscriptions, in order.
+/// The lines of these subscriptions, by their places. A spare place has no name and no address.
 pub(crate) fn named_lines(alloc: Global, subs: &Subs) -> Result<Vec<NamedLine>, AllocError>
     ensures { IfOk result (λ lines. map names_in lines.items ≡ names_of subs.now) }
 {

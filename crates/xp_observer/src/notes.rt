@@ -73,6 +73,15 @@ impl Notes {
         }
     }
 
+    /// Begins anew at this moment with each place whose line has another name than before.
+    pub(crate) fn begin_anew(&mut self, before: &[NamedLine], lines: &[NamedLine], now: u64) {
+        for (notes, (was, is)) in self.lines.iter_mut().zip(before.iter().zip(lines.iter())) {
+            if is.name != was.name {
+                *notes = LineNotes::new(now);
+            }
+        }
+    }
+
     /// Takes note of a line's peer.
     pub(crate) fn set_peer(&mut self, line: LineNo, peer: Option<SocketAddr>) {
         if let Some(notes) = self.lines.get_mut(usize::from(line)) {

@@ -1,7 +1,7 @@
 //! What is kept to show an operator the exchange.
 
-ghost use Rattle.std.specs.Prelude.{◌≡◌, IfOk, map};
-ghost use Rattle.xp_observer.specs.Shown.{AreNamesInForce, AreShown, IsNamedStatusOf, IsStatusOf, names_in, names_of};
+ghost use Rattle.std.specs.Prelude.{◌≡◌, IfOk, count_by, map};
+ghost use Rattle.xp_observer.specs.Shown.{AreNamesInForce, AreShown, IsNamedStatusOf, IsShownAs, IsStatusOf, has_no_name, names_in, names_of};
 
 use crate::calls::live_calls;
 use crate::lines::NamedLine;
@@ -12,6 +12,7 @@ use std::marker::{Model, PhantomData};
 use std::net::SocketAddr;
 use xp_charge::Record;
 use xp_console::{EndedCall, ExchangeStatus, LineStatus, ReloadCounts, Totals};
+use xp_machine::LineView;
 use xp_sink::ShownExchange;
 use xp_subs::{LineNo, Subs};
 use xp_view::ExchangeView;
@@ -70,7 +71,8 @@ impl<N: ShownExchange> Observer<N> {
     }
 
     /// Takes note that other subscriptions came into force at this moment, in seconds since 1970: from now on the lines are named as
-    /// they name them. What was counted of a station goes on where they have a station of its address.
+    /// they name them. What was counted of a station goes on where they have a station of its address, and what is known of a router
+    /// where they have it. A line that is new is out of service since now.
     pub fn rename(&mut self, naming: Naming, now: u64)
         requires { AreNamesInForce N.tables naming }
         ensures { self.new ≡ naming }
@@ -78,9 +80,13 @@ impl<N: ShownExchange> Observer<N> {
         let Naming {
             lines,
             mut stations,
+            mut routers,
         } = naming;
         stations.go_on(&self.notes.stations);
+        routers.go_on(&self.notes.routers);
         self.notes.stations = stations;
+        self.notes.routers = routers;
+        self.notes.begin_anew(&self.lines, &lines, now);
         self.lines = lines;
         self.reloads.done = self.reloads.done.saturating_add(1);
         self.reloads.last = Some(now);
@@ -163,8 +169,9 @@ impl<N: ShownExchange> Observer<N> {
             started: self.started,
             moment: now,
             lines: line_statuses(alloc, &self.lines, &self.notes, view)?,
+            spare_lines: spare_count(&self.lines) as u64,
             calls,
-            recent: recent_calls(alloc, &self.lines, &self.notes)?,
+            recent: recent_calls(alloc, &self.notes)?,
             stations: self.notes.stations.calls(alloc)?,
             totals,
             reloads: self.reloads,
@@ -172,7 +179,14 @@ impl<N: ShownExchange> Observer<N> {
     }
 }
 
-/// What is shown of each line, in order.
+/// How many places are spare.
+fn spare_count(lines: &[NamedLine]) -> usize
+    ensures { result ≡ count_by has_no_name (map names_in lines.now) }
+{
+    lines.iter().filter(|line| line.is_spare()).count()
+}
+
+/// What is shown of each line, in order. Spare places are not shown.
 fn line_statuses(
     alloc: Global,
     lines: &[NamedLine],
@@ -184,28 +198,34 @@ fn line_statuses(
     let count = lines.len().min(view.lines.len());
     let mut statuses = Vec::with_capacity(alloc, count)?;
     for place in 0..count {
-        let seen = view.lines[place].line;
-        let router_unreachable_since = notes.routers.unreachable_since(place);
-        let status = lines[place].status(
-            alloc,
-            notes.of_line(place),
-            router_unreachable_since,
-            seen,
-        )?;
-        statuses.push(status)?;
+        if !lines[place].is_spare() {
+            let seen = view.lines[place].line;
+            let status = line_status(alloc, &lines[place], notes, place, seen)?;
+            statuses.push(status)?;
+        }
     }
     Ok(statuses)
 }
 
-/// The calls that ended last, the latest last.
-fn recent_calls(
+/// What is shown of the line at this place.
+fn line_status(
     alloc: Global,
-    lines: &[NamedLine],
+    line: &NamedLine,
     notes: &Notes,
-) -> Result<Vec<EndedCall>, AllocError> {
+    place: usize,
+    seen: LineView,
+) -> Result<LineStatus, AllocError>
+    ensures { IfOk result (IsShownAs (names_in line.now) seen) }
+{
+    let unreachable_since = notes.routers.unreachable_since(place);
+    line.status(alloc, notes.of_line(place), unreachable_since, seen)
+}
+
+/// The calls that ended last, the latest last.
+fn recent_calls(alloc: Global, notes: &Notes) -> Result<Vec<EndedCall>, AllocError> {
     let mut recent = Vec::with_capacity(alloc, notes.ended_last.len())?;
     for call in &notes.ended_last {
-        recent.push(call.shown(alloc, lines)?)?;
+        recent.push(call.shown(alloc)?)?;
     }
     Ok(recent)
 }

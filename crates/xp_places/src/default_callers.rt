@@ -99,7 +99,7 @@ fn first_router(subs: &Subs) -> Option<RouterAddress> {
     }
     match subs.access_of(0) {
         Access::Router(router) => Some(router.copy()),
-        Access::Port(_) => None,
+        Access::Port(_) | Access::Spare => None,
     }
 }
 

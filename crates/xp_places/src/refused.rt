@@ -64,7 +64,10 @@ fn push_place(
         },
         SubscriptionFault::Limit(key) => {
             let place = refused_part(alloc, file, fault)?.unwrap_or(Place::Top(file));
-            push_limit(told, place, key)
+            match key {
+                Key::SpareLines | Key::SpareLines128 => push_places(told),
+                _ => push_limit(told, place, key),
+            }
         }
     }
 }
@@ -142,6 +145,14 @@ fn push_unknown(told: &mut String, place: Place<'_>) -> Result<(), AllocError> {
         }
     }
     Ok(())
+}
+
+/// There are more lines and spare lines than an exchange may have.
+fn push_places(told: &mut String) -> Result<(), AllocError> {
+    write!(
+        told,
+        "at the top of the file: at most {MOST_LINES} lines and spare lines together"
+    )
 }
 
 fn push_limit(told: &mut String, place: Place<'_>, key: Key) -> Result<(), AllocError> {

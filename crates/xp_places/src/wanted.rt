@@ -21,6 +21,7 @@ pub(crate) fn wanted(place: Place<'_>, key: Key) -> &'static str {
         Key::Journal => "a number from 4 to 10000000",
         Key::Host => "a text",
         Key::Port | Key::XotPort => "a number from 1 to 65535",
+        Key::SpareLines | Key::SpareLines128 => "a number from 0 to 4096",
         Key::Station | Key::Line => "an array of at least one table",
         Key::Group => "an array of tables",
         Key::Redirect => "a table",

@@ -4,6 +4,7 @@ use std::alloc::{AllocError, Global};
 use std::fmt::Write;
 use xp_arguments::{DetailsOrder, ServeOrder};
 use xp_subs::{Access, LineNo, Subs};
+use xp_summary::spare_count;
 
 /// The ports of lines that have one of their own.
 #[derive(Clone, Copy, Default)]
@@ -35,18 +36,19 @@ impl OwnPorts {
     }
 }
 
-/// What is served, and where, such as `serving 5 lines at 127.0.0.1, on ports 19981 to 19985; records in calls.csv`.
+/// What is served, and where, such as `serving 5 lines at 127.0.0.1, on ports 19981 to 19985, 2 spare lines; records in calls.csv`.
 pub fn opening(alloc: Global, order: &ServeOrder<'_>, subs: &Subs) -> Result<String, AllocError> {
     let mut told = String::new(alloc);
     push_ports(&mut told, subs)?;
+    push_spare(&mut told, subs)?;
     push_outputs(&mut told, order)?;
     Ok(told)
 }
 
 /// Appends how many lines are served, and on which ports.
 fn push_ports(told: &mut String, subs: &Subs) -> Result<(), AllocError> {
-    let lines = subs.counts().lines;
-    let noun = if lines == 1 { "line" } else { "lines" };
+    let lines = subs.counts().lines.saturating_sub(spare_count(subs));
+    let noun = noun_for(lines);
     write!(told, "serving {lines} {noun} at {}", subs.host())?;
     let ports = OwnPorts::of(subs);
     match ports.count {
@@ -58,6 +60,20 @@ fn push_ports(told: &mut String, subs: &Subs) -> Result<(), AllocError> {
         write!(told, ", routers on port {}", subs.xot_port())?;
     }
     Ok(())
+}
+
+/// Appends how many places are spare, if any are.
+fn push_spare(told: &mut String, subs: &Subs) -> Result<(), AllocError> {
+    let spare = spare_count(subs);
+    if spare > 0 {
+        write!(told, ", {spare} spare {}", noun_for(spare))?;
+    }
+    Ok(())
+}
+
+/// What so many lines are called.
+fn noun_for(count: usize) -> &'static str {
+    if count == 1 { "line" } else { "lines" }
 }
 
 /// Appends where the records go, and where the console is.

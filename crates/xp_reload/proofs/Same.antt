@@ -8,17 +8,14 @@ use Rattle.xp_reload.specs.Frame.{IsSameFrame}
 pub frame_kept : (tables : Tables) → IsSameFrame tables tables
 frame_kept tables = record {
   count = refl;
-  lines = λ line within. record { name = refl; access = refl; modulus = refl };
+  moduli = λ line within. refl;
   settings = record { segment_limit = refl; journal = refl; host = refl; xot_port = refl; name = refl };
 }
 
 pub frame_through : (one two three : Tables) → IsSameFrame one two → IsSameFrame two three → IsSameFrame one three
 frame_through one two three first second = record {
   count = second.count ∙ first.count;
-  lines = λ line within.
-      let old = first.lines line within in
-      let new = second.lines line (omega (arith, first.count, within)) in
-      record { name = new.name ∙ old.name; access = new.access ∙ old.access; modulus = new.modulus ∙ old.modulus };
+  moduli = λ line within. second.moduli line (omega (arith, first.count, within)) ∙ first.moduli line within;
   settings = record {
     segment_limit = second.settings.segment_limit ∙ first.settings.segment_limit;
     journal = second.settings.journal ∙ first.settings.journal;
@@ -28,9 +25,9 @@ frame_through one two three first second = record {
   };
 }
 
--- each line keeps its modulus, also one that neither has
+-- each place keeps its modulus, also one that neither has
 pub modulus_kept : (old new : Tables) → IsSameFrame old new → (line : ℕ) → modulus_of new line ≡ modulus_of old line
 modulus_kept old new frame line = elim (cases_lt line (line_count old)) [
-  | inl within ↦ (frame.lines line within).modulus
+  | inl within ↦ frame.moduli line within
   | inr past ↦ ap (λ l. l.modulus) (get_or_past new.lines line no_line (omega (arith, frame.count, past)) ∙ sym (get_or_past old.lines line no_line past))
 ]

@@ -1,15 +1,14 @@
--- The frame of the subscriptions: what stays as it is while the exchange serves, though the rest of them changes.
+-- What may change of the subscriptions while the exchange serves, and what stays: their frame.
 use Rattle.std.specs.Prelude.{◌≡◌, ◌<◌, ℕ}
-use Rattle.xp_subs.specs.Tables.{Tables, line_at, line_count}
+use Rattle.xp_subs.specs.Tables.{Tables, line_count, modulus_of}
 use Rattle.xp_subs.specs.declared.line.Line.{Line}
 use Rattle.xp_reload.specs.declared.frame.FrameChange.{FrameChange}
 use Rattle.xp_reload.specs.declared.frame.FrameChange.TheVariants as changes
 
--- two lines have the same name, the same port or router, and the same modulus
-pub record IsSameLine (old new : Line) : Type 0 where
+-- a place keeps its line: the line has the same name, and the same port or router, or the place is spare as before
+pub record KeepsLine (old new : Line) : Type 0 where
   pub name : new.name ≡ old.name
   pub access : new.access ≡ old.access
-  pub modulus : new.modulus ≡ old.modulus
 
 -- the limits of segments and of history entries, where the exchange listens, and its name
 pub record HasSameSettings (old new : Tables) : Type 0 where
@@ -19,15 +18,16 @@ pub record HasSameSettings (old new : Tables) : Type 0 where
   pub xot_port : new.xot_port ≡ old.xot_port
   pub name : new.name ≡ old.name
 
+-- there are as many places for lines, and each place has its modulus, also a spare one
 pub record IsSameFrame (old new : Tables) : Type 0 where
   pub count : line_count new ≡ line_count old
-  pub lines : (line : ℕ) → line < line_count old → IsSameLine (line_at old line) (line_at new line)
+  pub moduli : (line : ℕ) → line < line_count old → modulus_of new line ≡ modulus_of old line
   pub settings : HasSameSettings old new
 
 -- what differs
 abbrev pub Differs : Tables → Tables → FrameChange → Type 0
 Differs old new changes.LineCount = line_count new ≡ line_count old → ⊥
-Differs old new (changes.Line line) = (line < line_count old) × (IsSameLine (line_at old line) (line_at new line) → ⊥)
+Differs old new (changes.Modulus line) = (line < line_count old) × (modulus_of new line ≡ modulus_of old line → ⊥)
 Differs old new changes.SegmentLimit = new.segment_limit ≡ old.segment_limit → ⊥
 Differs old new changes.Journal = new.journal ≡ old.journal → ⊥
 Differs old new changes.Host = new.host ≡ old.host → ⊥

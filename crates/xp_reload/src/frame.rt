@@ -1,16 +1,16 @@
 ghost use Rattle.std.specs.Prelude.{◌≡◌, ◌<◌, ◌↔◌, ℕ, IfSome, None, true};
-ghost use Rattle.xp_reload.specs.Frame.{Differs, HasSameSettings, IsSameFrame, IsSameLine};
-ghost use Rattle.xp_subs.specs.Tables.{line_at, line_count};
+ghost use Rattle.xp_reload.specs.Frame.{Differs, HasSameSettings, IsSameFrame, KeepsLine};
+ghost use Rattle.xp_subs.specs.Tables.{line_at, line_count, modulus_of};
 
-use xp_subs::{Line, LineNo, Subs};
+use xp_subs::{LineNo, Subs};
 
 /// What differs between the frames of two subscriptions.
 #[derive(Clone, Copy, Debug, PartialEq, Eq)]
 pub enum FrameChange {
-    /// There are more lines, or fewer.
+    /// There are more places for lines, or fewer.
     LineCount,
-    /// The line with this number has another name, port, router or modulus.
-    Line(LineNo),
+    /// The place with this number has another modulus.
+    Modulus(LineNo),
     /// The most segments that a call may have in one direction.
     SegmentLimit,
     /// The most entries that the history may have.
@@ -32,32 +32,36 @@ pub fn frame_change(old: &Subs, new: &Subs) -> Option<FrameChange>
     if new.counts().lines != old.counts().lines {
         return Some(FrameChange::LineCount);
     }
-    match changed_line(old, new) {
-        Some(line) => Some(FrameChange::Line(line)),
+    match changed_modulus(old, new) {
+        Some(line) => Some(FrameChange::Modulus(line)),
         None => changed_setting(old, new),
     }
 }
 
-/// Returns the first line that has another name, port, router or modulus.
-fn changed_line(old: &Subs, new: &Subs) -> Option<LineNo>
+/// Returns the first place that has another modulus.
+fn changed_modulus(old: &Subs, new: &Subs) -> Option<LineNo>
     requires { line_count new.now ≡ line_count old.now }
-    ensures same { result ≡ None → (line : ℕ) → line < line_count old.now → IsSameLine (line_at old.now line) (line_at new.now line) }
-    ensures changed { IfSome result (λ line. (line < line_count old.now) × (IsSameLine (line_at old.now line) (line_at new.now line) → ⊥)) }
+    ensures same { result ≡ None → (line : ℕ) → line < line_count old.now → modulus_of new.now line ≡ modulus_of old.now line }
+    ensures changed { IfSome result (λ line. (line < line_count old.now) × (modulus_of new.now line ≡ modulus_of old.now line → ⊥)) }
 {
     for number in 0..old.counts().lines {
         let line = number as LineNo;
-        if !is_same_line(old.line(line), new.line(line)) {
+        if new.modulus_of(line) != old.modulus_of(line) {
             return Some(line);
         }
     }
     None
 }
 
-/// Returns whether two lines have the same name, the same port or router, and the same modulus.
-fn is_same_line(old: &Line, new: &Line) -> bool
-    ensures { result ≡ true ↔ IsSameLine old.now new.now }
+/// Returns whether a place keeps its line: it has the same name, and the same port or router.
+pub fn keeps_line(old: &Subs, new: &Subs, line: LineNo) -> bool
+    requires old { line < line_count old.now }
+    requires new { line < line_count new.now }
+    ensures { result ≡ true ↔ KeepsLine (line_at old.now line) (line_at new.now line) }
 {
-    old.name == new.name && old.access == new.access && old.modulus == new.modulus
+    let old = old.line(line);
+    let new = new.line(line);
+    old.name == new.name && old.access == new.access
 }
 
 /// Returns the first setting of the exchange that differs.

@@ -3,4 +3,4 @@
 
 mod frame;
 
-pub use frame::{FrameChange, frame_change};
+pub use frame::{FrameChange, frame_change, keeps_line};

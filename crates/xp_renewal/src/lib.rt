@@ -2,7 +2,9 @@
 #![tactic(auto)]
 
 mod not_read;
+mod renewal;
 mod subscription_file;
 mod telling;
 
+pub use renewal::Renewal;
 pub use subscription_file::SubscriptionFile;

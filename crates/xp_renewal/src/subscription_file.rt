@@ -1,35 +1,33 @@
 //! The subscription file of an exchange that serves.
 
-ghost use Rattle.std.specs.Prelude.{◌≡◌, ◌↔◌, IfOk, IsOk, Ok, OnErr, OnOk, Some, option_map, string_bytes};
+ghost use Rattle.std.specs.Prelude.{◌≡◌, IfOk, Some, string_bytes};
 ghost use Rattle.std.specs.IoError.{error_kind};
 ghost use Rattle.std.specs.Result.{result_map_both};
-ghost use Rattle.xp_subs.specs.Tables.{Tables};
-ghost use Rattle.xp_tasks.specs.SetUp.{SetsUp};
+ghost use Rattle.xp_renewal.specs.steps.Laid.{IsLaidFrom};
 
 use crate::not_read::NotRead;
-use crate::telling::{changes_told, reason_told, text_of};
+use crate::telling::changes_told;
 use std::alloc::{AllocGlobal, Global};
 use std::fs::{File, Files};
 use std::{fs, io};
+use xp_changes::lay_text;
 use xp_commands::subscriptions_of;
-use xp_serve::{OfferedSubs, SubsSource};
-use xp_sink::{NextSubs, NotInForce};
-use xp_subs::Subs;
+use xp_serve::OfferedSubs;
+use xp_sink::NextSubs;
+use xp_subs::{LayFault, Subs};
 
 /// The subscription file of an exchange that serves, and the subscriptions in force.
 pub struct SubscriptionFile<R> {
     rt: R,
     path: String,
-    in_force: Subs,
-    /// What was read last, until it is known what became of it.
-    read: Option<ReadSubs>,
+    pub(crate) in_force: Subs,
 }
 
 /// Subscriptions that were read, and what an operator is told of them once they are in force.
 #[derive(Drop)]
-struct ReadSubs {
-    subs: Subs,
-    told: String,
+pub(crate) struct ReadSubs {
+    pub(crate) subs: Subs,
+    pub(crate) told: String,
 }
 
 impl<R: Drop> Drop for SubscriptionFile<R> {
@@ -38,7 +36,6 @@ impl<R: Drop> Drop for SubscriptionFile<R> {
             rt: _,
             path: _,
             in_force: _,
-            read: _,
         } = self;
     }
 }
@@ -48,97 +45,76 @@ impl<R> SubscriptionFile<R> {
     pub fn new(rt: R, path: String, in_force: Subs) -> SubscriptionFile<R>
         ensures { result.in_force ≡ in_force }
     {
-        SubscriptionFile {
-            rt,
-            path,
-            in_force,
-            read: None,
-        }
+        SubscriptionFile { rt, path, in_force }
     }
 }
 
-impl<R: AllocGlobal + Drop + Files<File = File>> SubscriptionFile<R> {
-    /// Reads the file once for each who needs it.
-    fn read_each(&mut self, alloc: Global, moment: u64) -> Result<OfferedSubs, NotRead>
-        ensures next { IfOk result (λ offered. option_map (λ read. read.subs) self.new.read ≡ Some offered.next.subs) }
-        ensures names { IfOk result (λ offered. offered.names ≡ offered.next.subs) }
-        ensures live { IfOk result (λ offered. offered.live ≡ Some offered.next.subs) }
-        ensures in_force { self.new.in_force ≡ self.old.in_force }
-    {
-        let text = fs::read_to_string(&self.rt, self.path.as_str());
-        let read = self.what_changes(alloc, &text)?;
-        self.read = Some(read);
-        self.copies(&text, moment)
+impl<R: AllocGlobal + Files<File = File>> SubscriptionFile<R> {
+    /// What the file has.
+    pub(crate) fn text(&self) -> io::Result<String> {
+        fs::read_to_string(&self.rt, self.path.as_str())
     }
 
-    /// The subscriptions of this text, and what they change, where they may come into force while the exchange serves.
-    fn what_changes(&self, alloc: Global, text: &io::Result<String>) -> Result<ReadSubs, NotRead>
-        ensures { IfOk result (λ read. SetsUp (result_map_both string_bytes error_kind text.now) (Ok read.subs)) }
+    /// The subscriptions of this text, laid over those in force, and what they change, where they may come into force while the
+    /// exchange serves.
+    pub(crate) fn read(&self, alloc: Global, text: &io::Result<String>) -> Result<ReadSubs, NotRead>
+        ensures { IfOk result (λ read. IsLaidFrom self.now.in_force (result_map_both string_bytes error_kind text.now) read.subs) }
     {
-        let subs = subscriptions_of(&self.rt, &self.path, text)?;
-        match changes_told(alloc, &self.in_force, &subs) {
-            Ok(told) => Ok(ReadSubs { subs, told }),
-            Err(why) => Err(why),
+        let next = subscriptions_of(&self.rt, &self.path, text)?;
+        match self.in_force.laid_over(alloc, next) {
+            Ok(subs) => {
+                let told = changes_told(alloc, &self.in_force, &subs)?;
+                Ok(ReadSubs { subs, told })
+            }
+            Err(fault) => Err(not_laid(alloc, &fault)),
         }
     }
 
-    /// The subscriptions of this text, for each who needs them.
-    fn copies(&self, text: &io::Result<String>, moment: u64) -> Result<OfferedSubs, NotRead>
-        ensures next { IfOk result (λ offered. SetsUp (result_map_both string_bytes error_kind text.now) (Ok offered.next.subs)) }
-        ensures names { IfOk result (λ offered. offered.names ≡ offered.next.subs) }
-        ensures live { IfOk result (λ offered. offered.live ≡ Some offered.next.subs) }
+    /// Those that were read from this text, once for each who needs them.
+    pub(crate) fn copies(
+        &self,
+        alloc: Global,
+        text: &io::Result<String>,
+        read: &ReadSubs,
+        moment: u64,
+    ) -> Result<OfferedSubs, NotRead>
+        requires { IsLaidFrom self.now.in_force (result_map_both string_bytes error_kind text.now) read.now.subs }
+        ensures next { IfOk result (λ offered. offered.next.subs ≡ read.now.subs) }
+        ensures names { IfOk result (λ offered. offered.names ≡ read.now.subs) }
+        ensures live { IfOk result (λ offered. offered.live ≡ Some read.now.subs) }
     {
-        let subs = subscriptions_of(&self.rt, &self.path, text)?;
-        let names = subscriptions_of(&self.rt, &self.path, text)?;
-        let live = subscriptions_of(&self.rt, &self.path, text)?;
+        let subs = self.copy(alloc, text, &read.subs)?;
+        let names = self.copy(alloc, text, &read.subs)?;
+        let live = self.copy(alloc, text, &read.subs)?;
         Ok(OfferedSubs {
             next: NextSubs { subs, moment },
             names,
             live: Some(live),
         })
     }
-}
 
-impl<R: AllocGlobal + Drop + Files<File = File>> SubsSource for SubscriptionFile<R> {
-    ghost use Rattle.std.specs.Prelude.{◌≡◌, Some, option_map};
-
-    ghost in_force = { λ file. file.in_force };
-
-    ghost has_read = { λ file next. option_map (λ read. read.subs) file.read ≡ Some next };
-
-    fn read(&mut self, alloc: Global, moment: u64) -> Result<OfferedSubs, String> {
-        match self.read_each(alloc, moment) {
-            Ok(offered) => Ok(offered),
-            Err(why) => Err(text_of(alloc, &why)),
-        }
-    }
-
-    fn take_note(
-        &mut self,
-        alloc: Global,
-        outcome: Result<(), NotInForce>,
-    ) -> Result<String, String> {
-        let read = self.read.take();
-        match outcome {
-            Ok(()) => Ok(self.put_into_force(alloc, read)),
-            Err(why) => Err(reason_told(alloc, &self.in_force, why)),
-        }
-    }
-
-    fn subs(&self) -> &Subs {
-        &self.in_force
-    }
-}
-
-impl<R> SubscriptionFile<R> {
-    /// Takes note that these are in force, and returns what is told of them.
-    fn put_into_force(&mut self, alloc: Global, read: Option<ReadSubs>) -> String
-        ensures { (next : Tables) → option_map (λ read. read.subs) read ≡ Some next → self.new.in_force ≡ next }
+    /// The subscriptions of this text once more, which are laid over those that were read from it: each line has its place there.
+    fn copy(&self, alloc: Global, text: &io::Result<String>, laid: &Subs) -> Result<Subs, NotRead>
+        requires { IsLaidFrom self.now.in_force (result_map_both string_bytes error_kind text.now) laid.now }
+        ensures { IfOk result (λ copy. copy ≡ laid.now) }
     {
-        let Some(ReadSubs { subs, told }) = read else {
-            return String::new(alloc);
-        };
-        self.in_force = subs;
-        told
+        let next = subscriptions_of(&self.rt, &self.path, text)?;
+        // The contract of these calls says that subscriptions are sound.
+        let _ = (next.counts(), laid.counts());
+        match laid.laid_over(alloc, next) {
+            Ok(copy) => {
+                let _ = copy.counts();
+                Ok(copy)
+            }
+            Err(fault) => Err(not_laid(alloc, &fault)),
+        }
+    }
+}
+
+/// Why lines have no places.
+fn not_laid(alloc: Global, fault: &LayFault) -> NotRead {
+    match lay_text(alloc, fault) {
+        Ok(told) => NotRead::NeedsStop(told),
+        Err(refused) => NotRead::from(refused),
     }
 }

@@ -10,6 +10,7 @@ use Rattle.xp_step.specs.declared.entry.Entry.{Entry}
 use Rattle.xp_step.specs.declared.output.Output.{Output}
 use Rattle.xp_step.specs.declared.output.Put.{Put}
 use Rattle.xp_step.specs.declared.output.Put.TheVariants.{Send, Close}
+use Rattle.xp_step.specs.InForce.{last_of}
 
 module _ {A : Type 0} where
   -- a packet that is put out, as a frame of its line; a close is no text
@@ -27,5 +28,7 @@ module _ {A : Type 0} where
   entry_text tables entry =
       flat_map (output_text tables) entry.outputs ++ flat_map (record_text tables) entry.records.items
 
+  -- the same of entries, where the first of them finds these tables in force, and each the last that came before it
   abbrev pub text_of : Tables → List (Entry A) → List ℕ
-  text_of tables entries = flat_map (entry_text tables) entries
+  text_of force [] = []
+  text_of force (entry ∷ entries) = entry_text force entry ++ text_of (last_of force entry.tables.items) entries

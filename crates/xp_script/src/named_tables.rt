@@ -2,13 +2,14 @@
 
 ghost use Rattle.std.specs.Prelude.{◌≡◌, ◌≢◌, ◌<◌, IfErr, IfOk, IfSome, Err, Ok, length};
 ghost use Rattle.xp_file.specs.declared.fault.SubscriptionFault.TheVariants.{Memory as OutOfMemory};
-ghost use Rattle.xp_script.specs.NamedText.{number_named};
+ghost use Rattle.xp_script.specs.NamedText.{CannotLay, LaysOver, number_named};
 ghost use Rattle.xp_subs.specs.Built.{SetsUp};
 ghost use Rattle.xp_subs.specs.Tables.{same};
+ghost use Rattle.xp_subs.specs.declared.laid.LayFault.TheVariants.{Memory as NoMemory};
 
 use std::alloc::{AllocError, Global};
 use std::marker::Model;
-use xp_subs::{Subs, SubscriptionFault};
+use xp_subs::{LayFault, Subs, SubscriptionFault};
 
 /// Subscriptions that a line of a script may bring into force: their name, and the text of a subscription file. They are read
 /// from the text whenever they are brought.
@@ -73,6 +74,19 @@ impl<'a> NamedTables<'a> {
             Ok(subs) => Ok(subs),
             Err(_) => Err(AllocError),
         }
+    }
+
+    /// Reads them from their text, and lays their lines over the places of those in force.
+    ///
+    /// # Errors
+    ///
+    /// Why a line has no place; or memory is wanting.
+    pub fn laid_over(&self, force: &Subs) -> Result<Subs, LayFault>
+        ensures laid { IfOk result (LaysOver self.now.text force.now) }
+        ensures refused { IfErr result (λ fault. fault ≢ NoMemory → CannotLay self.now.text force.now fault) }
+    {
+        let next = self.read()?;
+        force.laid_over(self.alloc, next)
     }
 }
 

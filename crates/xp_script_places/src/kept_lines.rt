@@ -1,21 +1,28 @@
 ghost use Rattle.std.specs.Prelude.{◌≡◌};
 
+use crate::kept_script::{KeptScript, LINE_FEED};
 use memchr::memrchr;
-use std::alloc::Global;
+use std::alloc::{AllocError, Global};
 use std::io;
 use std::io::Read;
 use std::marker::Model;
 use xp_script::MAX_LINE_OCTETS;
 
-const LINE_FEED: u8 = b'\n';
+/// What a line begins with that brings subscriptions into force.
+const TABLES: &[u8] = b"tables ";
 
 /// A reader of a script that keeps the last lines which it gave: those of its last read, from the beginning of the line that the read
-/// before left unfinished. It gives what the reader within gives.
+/// before left unfinished. Of the lines before these it keeps those that bring subscriptions into force. It gives what the reader within
+/// gives.
 #[derive(Drop)]
 pub struct KeptLines<R> {
     reader: R,
-    /// The lines that are kept.
+    /// The lines before the last ones that bring subscriptions into force.
+    brought: Vec<u8>,
+    /// The last lines.
     octets: Vec<u8>,
+    /// The number of the first of the last lines.
+    first: u64,
     /// Whether memory was found for all of them so far.
     is_whole: bool,
 }
@@ -33,21 +40,34 @@ impl<R> KeptLines<R> {
     {
         KeptLines {
             reader,
+            brought: Vec::new(alloc),
             octets: Vec::new(alloc),
+            first: 1,
             is_whole: true,
         }
     }
 
-    /// The lines that are kept, the last of which may be unfinished. Empty where memory was wanting. No contract says which they are.
-    pub fn octets(&self) -> &[u8] {
-        if self.is_whole { &self.octets } else { &[] }
+    /// What is kept of the script, of which the last line may be unfinished. Empty where memory was wanting. No contract says which lines
+    /// they are.
+    pub fn script(&self) -> KeptScript<'_> {
+        if self.is_whole {
+            KeptScript {
+                brought: &self.brought,
+                lines: &self.octets,
+                first: self.first,
+            }
+        } else {
+            KeptScript::whole(&[])
+        }
     }
 
-    /// Forgets the lines that are finished.
+    /// Forgets the lines that are finished, but for those that bring subscriptions into force.
     fn forget_finished(&mut self)
         ensures { self.new ≡ self.old }
     {
         if let Some(end) = memrchr(LINE_FEED, &self.octets) {
+            let is_kept = keep_brought(&mut self.brought, &self.octets[..end], &mut self.first);
+            self.is_whole = self.is_whole && is_kept;
             let rest = self.octets.len() - end - 1;
             self.octets.copy_within(end + 1.., 0);
             self.octets.truncate(rest);
@@ -62,6 +82,25 @@ impl<R> KeptLines<R> {
             self.is_whole = self.is_whole && self.octets.extend_from_slice(octets).is_ok();
         }
     }
+}
+
+/// Adds those of these lines that bring subscriptions into force, and counts all of them. Returns whether memory was found.
+fn keep_brought(brought: &mut Vec<u8>, lines: &[u8], count: &mut u64) -> bool {
+    let mut is_kept = true;
+    for line in lines.split(|octet| *octet == LINE_FEED) {
+        if line.starts_with(TABLES) {
+            is_kept = is_kept && push_line(brought, line).is_ok();
+        }
+        *count = count.saturating_add(1);
+    }
+    is_kept
+}
+
+/// Adds a line.
+fn push_line(lines: &mut Vec<u8>, line: &[u8]) -> Result<(), AllocError> {
+    lines.extend_from_slice(line)?;
+    lines.push(LINE_FEED)?;
+    Ok(())
 }
 
 impl<R: Read> Read for KeptLines<R> {

@@ -3,11 +3,13 @@
 #![tactic(auto)]
 
 mod kept_lines;
+mod kept_script;
 mod refused;
 mod shown;
 mod trial;
 mod wanted;
 
 pub use kept_lines::KeptLines;
-pub use refused::refused_tables;
+pub use kept_script::KeptScript;
+pub use refused::{refused_lines, refused_tables};
 pub use wanted::wanted_at;

@@ -4,10 +4,9 @@ use std::alloc::{AllocError, Global};
 use xp_core::ReloadFault;
 use xp_reload::FrameChange;
 use xp_script::NamedTables;
-use xp_subs::{Line, LineNo, Subs};
+use xp_subs::{LayFault, LineNo, Subs};
 
-/// Why the subscriptions of this name cannot come into force, as one line without its end: `tables day: line a1: in a call`. `opening`
-/// are the subscriptions with which the exchange was opened: what cannot change while it serves is theirs.
+/// Why the subscriptions of this name cannot come into force after these, as one line without its end: `tables day: line a1: in a call`.
 ///
 /// No contract says what the text tells.
 ///
@@ -16,7 +15,7 @@ use xp_subs::{Line, LineNo, Subs};
 /// An allocation failed.
 pub fn refused_tables(
     alloc: Global,
-    opening: &Subs,
+    force: &Subs,
     named: &NamedTables<'_>,
     fault: ReloadFault,
 ) -> Result<String, AllocError> {
@@ -24,14 +23,16 @@ pub fn refused_tables(
     match fault {
         ReloadFault::JournalFull => format!(in alloc; "tables {name}: journal full"),
         ReloadFault::InCall(line) => {
-            let line = name_of(opening, line);
+            let line = name_of(force, line);
             format!(in alloc; "tables {name}: line {line}: in a call")
         }
-        ReloadFault::Frame(FrameChange::Line(line)) => {
-            let next = named.read()?;
-            let what = changed_of_line(opening, &next, line);
-            let line = name_of(opening, line);
-            format!(in alloc; "tables {name}: line {line}: {what}")
+        ReloadFault::InService(line) => {
+            let line = name_of(force, line);
+            format!(in alloc; "tables {name}: line {line}: in service")
+        }
+        ReloadFault::Frame(FrameChange::Modulus(line)) => {
+            let line = name_of(force, line);
+            format!(in alloc; "tables {name}: line {line}: another modulus")
         }
         ReloadFault::Frame(change) => {
             let what = changed(change);
@@ -40,35 +41,37 @@ pub fn refused_tables(
     }
 }
 
+/// Why the lines of the subscriptions of this name have no places, as one line without its end: `tables day: no spare place for line c1`.
+///
+/// No contract says what the text tells.
+///
+/// # Errors
+///
+/// An allocation failed, or memory was wanting for the places.
+pub fn refused_lines(alloc: Global, name: &str, fault: &LayFault) -> Result<String, AllocError> {
+    match fault {
+        LayFault::Modulus(line) => {
+            let line = line.as_str();
+            format!(in alloc; "tables {name}: line {line}: another modulus")
+        }
+        LayFault::Place(line) => {
+            let line = line.as_str();
+            format!(in alloc; "tables {name}: no spare place for line {line}")
+        }
+        LayFault::Memory => Err(AllocError),
+    }
+}
+
 /// What differs between the subscriptions, in words.
 fn changed(change: FrameChange) -> &'static str {
     match change {
         FrameChange::LineCount => "another number of lines",
-        FrameChange::Line(_) => "another line",
+        FrameChange::Modulus(_) => "another modulus",
         FrameChange::SegmentLimit => "another segment_limit",
         FrameChange::Journal => "another journal",
         FrameChange::Host => "another host",
         FrameChange::XotPort => "another xot_port",
         FrameChange::Name => "another name of the exchange",
-    }
-}
-
-/// What differs between the two lines of this number, in words.
-fn changed_of_line(opening: &Subs, next: &Subs, line: LineNo) -> &'static str {
-    match (line_of(opening, line), line_of(next, line)) {
-        (Some(old), Some(new)) if old.name != new.name => "another name",
-        (Some(old), Some(new)) if old.access != new.access => "another port or router",
-        (Some(old), Some(new)) if old.modulus != new.modulus => "another modulus",
-        _ => "another line",
-    }
-}
-
-/// The line of this number, if there is one.
-fn line_of(subs: &Subs, line: LineNo) -> Option<&Line> {
-    if usize::from(line) < subs.counts().lines {
-        Some(subs.line(line))
-    } else {
-        None
     }
 }
 

@@ -2,7 +2,7 @@
 
 use std::alloc::{AllocError, Global};
 use xp_script::{Command, LineFault, NamedTables};
-use xp_subs::Subs;
+use xp_subs::{LineNo, Subs};
 
 /// What a line begins with that brings subscriptions into force. A trial does not find it where none have a name.
 const TABLES: &[u8] = b"tables";
@@ -59,11 +59,13 @@ impl Trial<'_, '_> {
 
     /// The name of the first line.
     fn first_name(&self) -> &str {
-        if self.subs.counts().lines > 0 {
-            self.subs.name_of(0)
-        } else {
-            ""
+        for number in 0..self.subs.counts().lines {
+            let line = number as LineNo;
+            if !self.subs.is_spare(line) {
+                return self.subs.name_of(line);
+            }
         }
+        ""
     }
 
     /// What a line asks for. `None` where it is no line of a script.

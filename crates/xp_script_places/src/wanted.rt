@@ -7,8 +7,8 @@ use std::fmt::Write;
 use xp_script::{MAX_LINE_OCTETS, NamedTables};
 use xp_subs::Subs;
 
-/// What was wanted at the first of these lines that is no line of a script over these subscriptions, as one line without its end:
-/// `no line is named "x9"`. Lines may bring the named subscriptions into force. Empty where each of them is a line of a script.
+/// What was wanted at a line, where it is no line of a script while these subscriptions are in force, as one line without its end:
+/// `no line is named "x9"`. Lines may bring the named subscriptions into force. Empty where it is a line of a script.
 ///
 /// What is told is found by reading the line again with a part of it changed. No contract says what the text tells.
 ///
@@ -17,17 +17,18 @@ use xp_subs::Subs;
 /// An allocation failed.
 pub fn wanted_at(
     alloc: Global,
-    subs: &Subs,
+    force: &Subs,
     named: &[NamedTables<'_>],
-    lines: &[u8],
+    line: &[u8],
 ) -> Result<String, AllocError> {
-    let trial = Trial { alloc, subs, named };
+    let trial = Trial {
+        alloc,
+        subs: force,
+        named,
+    };
     let mut told = String::new(alloc);
-    for line in lines.split(|octet| *octet == b'\n') {
-        if !trial.is_line(line)? {
-            push_wanted(trial, &mut told, line)?;
-            return Ok(told);
-        }
+    if !trial.is_line(line)? {
+        push_wanted(trial, &mut told, line)?;
     }
     Ok(told)
 }

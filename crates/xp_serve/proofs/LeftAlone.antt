@@ -7,6 +7,7 @@ use Rattle.xp_cdr.specs.Ended.{IsNamedBy, charging_records}
 use Rattle.xp_cdr.specs.declared.ended.EndedCall.{EndedCall}
 use Rattle.xp_cdr.specs.declared.run.ExchangeRun.{ExchangeRun}
 use Rattle.xp_core.specs.Records.{records_of}
+use Rattle.xp_step.specs.InForce.{in_force}
 use Rattle.xp_writing.proofs.Bytes.{appends_nothing}
 use Rattle.xp_keeping.specs.Details.{AreKept, GoesOnAs, IsFirstOf, Keeping, first_keeping}
 use Rattle.xp_keeping.specs.Doubt.{AreDoubted, IsOfRun, WritesDoubted}
@@ -171,7 +172,7 @@ module _ (tables : Tables) (run : ExchangeRun) (after : Queued Keeping) (records
       (later : List Tables) (named : after.named ≡ tables ∷ later) (told_in_turn : AreToldInTurn after.named records) where
     -- all are kept, and nothing is written
     kept_alone : (came : Result (Unit {0}) KeepFault) (contents : Option (List ℕ)) (result : Result (Unit {0}) ServeFailure)
-        → AreKeptOrLeft AreKept GoesOnAs after.last after records came → result ≡ told served.book.subs served.early_end came
+        → AreKeptOrLeft AreKept GoesOnAs after.last after records came → result ≡ told (in_force served.book.subs served.book.history) served.early_end came
         → says_all_kept result ≡ true → LeavesAlone tables run after contents contents result
     kept_alone (Err fault) contents result kept told_is says = absurd (true≢false (sym says ∙ ap says_all_kept told_is ∙ fault_says fault))
     kept_alone (Ok done) contents result kept told_is says = record {
@@ -193,11 +194,11 @@ module _ (tables : Tables) (run : ExchangeRun) (after : Queued Keeping) (records
 
     -- some are in doubt, and are written
     written_alone : (came : Result (Unit {0}) KeepFault) (before contents : Option (List ℕ)) (result : Result (Unit {0}) ServeFailure) (written : Result (Unit {0}) KeepFault)
-        → AreKeptOrLeft AreKept GoesOnAs after.last after records came → result ≡ told served.book.subs served.early_end came
+        → AreKeptOrLeft AreKept GoesOnAs after.last after records came → result ≡ told (in_force served.book.subs served.book.history) served.early_end came
         → says_all_kept result ≡ false → WritesDoubted run after before contents written
         → LeavesAlone tables run after before contents (told_beside result written)
     written_alone (Ok done) before contents result written kept told_is says writes =
-        absurd (true≢false (sym (end_says served.book.subs served.early_end) ∙ sym (ap says_all_kept told_is) ∙ says))
+        absurd (true≢false (sym (end_says (in_force served.book.subs served.book.history) served.early_end) ∙ sym (ap says_all_kept told_is) ∙ says))
     written_alone (Err fault) before contents result written kept told_is says writes =
         let text = flat_map (detail_text run) writes.records in
         let in_all = found_in after.last fault kept in

@@ -3,6 +3,7 @@ use Rattle.std.proofs.Common.{◌≡◌, ◌↔◌, ℕ, ◌<◌, List, IfSome, 
 use Rattle.std.specs.declared.net.ip_addr.IpAddr.{IpAddr}
 use Rattle.xp_cdr.specs.declared.ended.EndedCall.{EndedCall}
 use Rattle.xp_serve.proofs.EarlyEnds.{early_within}
+use Rattle.xp_step.specs.InForce.{in_force}
 use Rattle.xp_serve.specs.Ends.{failure_by}
 use Rattle.xp_listening.specs.Failures.{failure_to_keep}
 use Rattle.xp_listening.specs.Hosts.{IsHost, IsNoHost}
@@ -54,7 +55,7 @@ module _ {K : Type 0} (kept : K → List EndedCall → Result (Unit {0}) KeepFau
   -- a host that is told is no address
   told_of_host : (tables : Tables) (before after : K) → Serves kept keeps tables before after (Err Host) → IsNoHost tables.host
   told_of_host tables before after (inl unserved) = unserved.1
-  told_of_host tables before after (inr served) = absurd (no_host_told served.0.book.subs served.0.early_end served.2.keeping served.2.told_is)
+  told_of_host tables before after (inr served) = absurd (no_host_told (in_force served.0.book.subs served.0.book.history) served.0.early_end served.2.keeping served.2.told_is)
 
   -- a host that is an address is not told
   pub not_of_host : (tables : Tables) (before after : K) (result : Result (Unit {0}) ServeFailure) (address : IpAddr)

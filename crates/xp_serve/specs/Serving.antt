@@ -2,6 +2,7 @@
 use Rattle.std.specs.Prelude.{◌≡◌, ◌⊎◌, List, Option, None, Some, Result, Ok, Err}
 use Rattle.xp_cdr.specs.declared.ended.EndedCall.{EndedCall}
 use Rattle.xp_core.specs.Records.{OneRecordEach, records_of}
+use Rattle.xp_step.specs.InForce.{in_force}
 use Rattle.xp_step.specs.Worlds.{world_after}
 use Rattle.xp_serve.specs.Ends.{failure_of}
 use Rattle.xp_listening.specs.Failures.{IsWanting, failure_to_keep}
@@ -30,13 +31,13 @@ IsUnserved tables (Err failure) = IsWanting tables failure
 -- `kept` is what a keeper keeps of all calls of a run, and `keeps` what stays the same of it.
 module _ {K : Type 0} (kept : K → List EndedCall → Result (Unit {0}) KeepFault → Type 0) (keeps : K → K → Type 0) where
   -- There is one record for each call that ended in the history of the book. The keeper has kept calls with these records, and what
-  -- came of that is told, or else the lowest line that ended before its time.
+  -- came of that is told, or else the lowest line that ended before its time, by its name in force at the close.
   pub record Tells (served : Served) (before after : K) (result : Result (Unit {0}) ServeFailure) : Type 0 where
     pub one_each : OneRecordEach served.book.subs served.book.history (world_after served.book.subs served.book.history)
     pub keeping : Result (Unit {0}) KeepFault
     pub kept_is : KeepsAll (kept after) (records_of served.book.history) keeping
     pub keeps_on : keeps before after
-    pub told_is : result ≡ told served.book.subs served.early_end keeping
+    pub told_is : result ≡ told (in_force served.book.subs served.book.history) served.early_end keeping
 
   -- no line was served and the keeper is as it was, or what the lines' threads left is told
   abbrev pub Serves : Tables → K → K → Result (Unit {0}) ServeFailure → Type 0

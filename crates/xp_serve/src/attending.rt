@@ -16,7 +16,7 @@ use xp_keeping::{KeepFault, RecordKeeper};
 use xp_limits::Limits;
 use xp_sink::{NextSubs, NotInForce, Received, RecordSink};
 use xp_subs::Subs;
-use xp_tcp::Notices;
+use xp_tcp::LinePlaces;
 use xp_view::ExchangeView;
 
 /// What is looked at again and again while the lines are served.
@@ -202,7 +202,7 @@ pub fn serve_attended<
     alloc: Global,
     subs: Subs,
     limits: Limits,
-    notices: Arc<Notices>,
+    places: Arc<LinePlaces>,
     attending: Attending<K, W>,
 ) -> ServeEnd<K>
     requires names { K.named_by attending.keeper ≡ subs }
@@ -210,7 +210,7 @@ pub fn serve_attended<
     requires new { K.received attending.keeper ≡ [] }
     ensures { Serves K.kept K.keeps subs attending.keeper result.keeper result.outcome }
 {
-    let ServeEnd { keeper, outcome } = serve(rt, alloc, subs, limits, notices, attending);
+    let ServeEnd { keeper, outcome } = serve(rt, alloc, subs, limits, places, attending);
     let Attending {
         keeper,
         watch: _,

@@ -39,7 +39,14 @@ pub trait SubsSource: Drop {
         ensures live { IfOk result (λ offered. offered.live ≡ Some offered.next.subs) }
         ensures in_force { in_force self.new ≡ in_force self.old };
 
-    /// Takes note of what became of those that it read last, and returns what an operator is told: what they change.
+    /// Takes the ports and the connections from the lines that go by those that it read last, which are in force now. What is told of
+    /// them is told by the names of before.
+    fn let_go(&mut self)
+        ensures read { (next : Tables) → has_read self.old next → has_read self.new next }
+        ensures in_force { in_force self.new ≡ in_force self.old };
+
+    /// Takes note of what became of those that it read last, and returns what an operator is told: what they change. Where they are in
+    /// force, their lines are connected by them from now on.
     ///
     /// # Errors
     ///

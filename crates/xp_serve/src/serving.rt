@@ -21,14 +21,14 @@ use std::sync::{Arc, Wait};
 use std::thread;
 use std::thread::Threads;
 use xp_keeping::RecordKeeper;
-use xp_limits::Limits;
+use xp_limits::{Limits, ServingThreads};
 use xp_lines::{EndReason, LineInputs, LinesServed};
 use xp_listening::{ServeFailure, host_address, listen_all};
 use xp_lock::{Exchange, LinePass, PreparedExchange, prepare};
 use xp_seats::{Name, Recorder};
 use xp_sink::RecordSink;
 use xp_subs::Subs;
-use xp_tcp::{Door, Ends, LinePort, Notices, OpenGate, Sockets, TcpClock, TcpPoller};
+use xp_tcp::{Door, Ends, LinePlaces, LinePort, OpenGate, Sockets, TcpClock, TcpPoller};
 
 /// How many lines are few enough for one thread.
 const LINES_OF_A_THREAD: usize = 8;
@@ -43,7 +43,7 @@ pub struct ServeEnd<K: RecordKeeper> {
 }
 
 /// Listens on the port of each line, and for the routers of lines, and serves all lines by [`serve_on`] until they have ended. The keeper has each charging
-/// record as its call ends, in the order in which the calls end. What an operator has to see of the lines is told by `notices`.
+/// record as its call ends, in the order in which the calls end. What an operator has to see of the lines is told by the notices of the places.
 ///
 /// # Errors
 ///
@@ -60,7 +60,7 @@ pub fn serve<
     alloc: Global,
     subs: Subs,
     limits: Limits,
-    notices: Arc<Notices>,
+    places: Arc<LinePlaces>,
     keeper: K,
 ) -> ServeEnd<K>
     requires names { K.named_by keeper ≡ subs }
@@ -75,7 +75,7 @@ pub fn serve<
             outcome: Err(ServeFailure::Host),
         };
     };
-    serve_at(rt, alloc, subs, host, limits, notices, keeper)
+    serve_at(rt, alloc, subs, host, limits, places, keeper)
 }
 
 /// Serves all lines at an address of the machine.
@@ -88,7 +88,7 @@ fn serve_at<
     subs: Subs,
     host: IpAddr,
     limits: Limits,
-    notices: Arc<Notices>,
+    places: Arc<LinePlaces>,
     keeper: K,
 ) -> ServeEnd<K>
     requires names { K.named_by keeper ≡ subs }
@@ -96,8 +96,8 @@ fn serve_at<
     requires new { K.received keeper ≡ [] }
     ensures { Serves K.kept K.keeps subs keeper result.keeper result.outcome }
 {
-    let threads = threads_for(rt, subs.counts().lines);
-    let sockets = match listen_all(rt, alloc, &subs, host, threads, notices) {
+    let threads = threads_for(rt, subs.counts().lines, limits.threads);
+    let sockets = match listen_all(rt, alloc, &subs, host, threads, places) {
         Ok(sockets) => sockets,
         Err(failure) => {
             return ServeEnd {
@@ -115,9 +115,19 @@ fn serve_at<
     }
 }
 
-/// How many threads serve so many lines: one for every eight of them, but no more than there are processors. A packet from one
-/// line to another of the same thread wakes no other thread.
-fn threads_for<R: Threads>(rt: &R, lines: usize) -> NonZeroUsize {
+/// How many threads serve so many lines, where these are asked for: no more than there are lines.
+fn threads_for<R: Threads>(rt: &R, lines: usize, threads: ServingThreads) -> NonZeroUsize {
+    let wanted = match threads {
+        ServingThreads::Chosen => return chosen_threads(rt, lines),
+        ServingThreads::Lines => lines,
+        ServingThreads::Count(count) => lines.min(usize::from(count)),
+    };
+    NonZeroUsize::new(wanted).unwrap_or(NonZeroUsize::MIN)
+}
+
+/// How many threads the exchange chooses for so many lines: one for every eight of them, but no more than there are processors.
+/// A packet from one line to another of the same thread wakes no other thread.
+fn chosen_threads<R: Threads>(rt: &R, lines: usize) -> NonZeroUsize {
     let processors = thread::available_parallelism(rt).unwrap_or(NonZeroUsize::MIN);
     let wanted = NonZeroUsize::new(lines.div_ceil(LINES_OF_A_THREAD));
     wanted.unwrap_or(NonZeroUsize::MIN).min(processors)

@@ -22,7 +22,7 @@ pub(crate) fn tell<K: RecordKeeper>(served: &Served, keeper: &mut K) -> Result<(
 {
     keeper.finish(served.book.records())?;
     match served.early_end {
-        Some(early_end) => Err(early_end.failure(served.book.subs())),
+        Some(early_end) => Err(early_end.failure(served.book.in_force())),
         None => Ok(()),
     }
 }

@@ -1,7 +1,8 @@
 //! What an operator asks of a serving exchange, and is told by it.
 
-ghost use Rattle.std.specs.Prelude.{OnOk};
+ghost use Rattle.std.specs.Prelude.{◌≡◌, OnOk};
 ghost use Rattle.xp_sink.specs.InForce.{IsInForce};
+ghost use Rattle.xp_subs.specs.Tables.{Tables};
 
 use crate::attending::Watch;
 use crate::console_feed::ConsoleFeed;
@@ -23,10 +24,13 @@ use xp_view::ExchangeView;
 /// How many notices are told at most in one look.
 const MOST_TOLD: usize = 64;
 
+/// In how many turns all notices are told that wait as lines go.
+const MOST_TURNS: usize = 32;
+
 /// Tells the notices of the lines' threads, and looks whether serving is to stop, or other subscriptions are to come into force.
 #[derive(Drop)]
 pub struct OperatorWatch<L: Log, F: ConsoleFeed, S: SubsSource> {
-    /// The names of the lines, in order.
+    /// The names of the lines in force, by their places. A spare place has the empty name.
     names: Vec<Name>,
     notices: Arc<Notices>,
     /// The input whose end asks serving to stop, if there is one.
@@ -92,7 +96,9 @@ impl<L: Log + Drop, F: ConsoleFeed, S: SubsSource> OperatorWatch<L, F, S> {
     }
 
     /// Tells the notices that wait.
-    fn tell_notices(&mut self, now: u64) {
+    fn tell_notices(&mut self, now: u64)
+        ensures { self.new.source ≡ self.old.source }
+    {
         for _notice in 0..MOST_TOLD {
             let Some(notice) = self.notices.take() else {
                 break;
@@ -107,7 +113,9 @@ impl<L: Log + Drop, F: ConsoleFeed, S: SubsSource> OperatorWatch<L, F, S> {
     }
 
     /// Tells a notice, with the name of its line if it is of one.
-    fn tell_notice(&mut self, now: u64, notice: &Notice) {
+    fn tell_notice(&mut self, now: u64, notice: &Notice)
+        ensures { self.new.source ≡ self.old.source }
+    {
         self.console.note(notice);
         let Some(line) = notice.line() else {
             self.tell_by(now, notice, format_args!("routers: {notice}"));
@@ -121,7 +129,9 @@ impl<L: Log + Drop, F: ConsoleFeed, S: SubsSource> OperatorWatch<L, F, S> {
     }
 
     /// Tells the fact of a notice: a failure also where only failures are told.
-    fn tell_by<D: Display + Drop>(&mut self, now: u64, notice: &Notice, fact: D) {
+    fn tell_by<D: Display + Drop>(&mut self, now: u64, notice: &Notice, fact: D)
+        ensures { self.new.source ≡ self.old.source }
+    {
         match notice {
             Notice::PortFailing { .. } | Notice::DoorFailing => self.log.warn(now, fact),
             _ => self.log.info(now, fact),
@@ -159,6 +169,34 @@ impl<L: Log + Drop, F: ConsoleFeed, S: SubsSource> OperatorWatch<L, F, S> {
             None => false,
         };
         console_asks || input_asks
+    }
+
+    /// Where the subscriptions that were read last are in force, lets the lines go that are gone by them, and tells of these by the names
+    /// that they had.
+    fn let_go(&mut self, now: u64, outcome: &Result<(), NotInForce>)
+        ensures read { (next : Tables) → S.has_read self.old.source next → S.has_read self.new.source next }
+        ensures in_force { S.in_force self.new.source ≡ S.in_force self.old.source }
+    {
+        if outcome.is_err() {
+            return;
+        }
+        self.source.let_go();
+        for _turn in 0..MOST_TURNS {
+            self.tell_notices(now);
+        }
+    }
+
+    /// Names the lines by the subscriptions in force from now on.
+    fn rename(&mut self)
+        ensures { self.new.source ≡ self.old.source }
+    {
+        let subs = self.source.subs();
+        let lines = subs.counts().lines;
+        for (place, name) in self.names.iter_mut().enumerate() {
+            if place < lines {
+                *name = subs.line(place as LineNo).name.copy();
+            }
+        }
     }
 
     /// Tells the operator, on the log and at the console, what became of other subscriptions.
@@ -218,7 +256,9 @@ impl<L: Log + Drop, F: ConsoleFeed, S: SubsSource> Watch for OperatorWatch<L, F,
 
     fn reloaded(&mut self, outcome: Result<(), NotInForce>) {
         let now = self.clock.now();
+        self.let_go(now, &outcome);
         let told = self.source.take_note(self.alloc, outcome);
+        self.rename();
         self.tell_reload(now, told);
     }
 
@@ -227,7 +267,7 @@ impl<L: Log + Drop, F: ConsoleFeed, S: SubsSource> Watch for OperatorWatch<L, F,
     }
 }
 
-/// The names of the lines, in order.
+/// The names of the lines, by their places.
 fn names_of(alloc: Global, subs: &Subs) -> Result<Vec<Name>, AllocError> {
     let lines = subs.counts().lines;
     let mut names = Vec::with_capacity(alloc, lines)?;

@@ -51,6 +51,7 @@ impl StatusSource for PaperSource {
             started: 1_000_000,
             moment: 1_093_784,
             lines,
+            spare_lines: 8,
             calls: Vec::new(alloc),
             recent: Vec::new(alloc),
             stations: Vec::new(alloc),

@@ -1,6 +1,6 @@
 //! Tests of what no run of the program shows: addresses of other machines, notices for which there is no room, records and traces on
-//! writers that fail, a link without a call, the age of days, what is shown of a view that is made by hand, a reload between two
-//! threads.
+//! writers that fail, a link without a call, places that change between two looks, the age of days, what is shown of a view that is
+//! made by hand, a reload between two threads.
 #![tactic(auto)]
 
 #[cfg(test)]
@@ -15,6 +15,8 @@ mod notices;
 mod observed;
 #[cfg(test)]
 mod paper;
+#[cfg(test)]
+mod places;
 #[cfg(test)]
 mod printing;
 #[cfg(test)]

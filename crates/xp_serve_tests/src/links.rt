@@ -8,7 +8,7 @@ use std::test::Fail;
 use xp_clock::Start;
 use xp_links::{Arrived, Link, Port, Pushed};
 use xp_packets::{Digits, Modulus};
-use xp_tcp::{Caller, Ends, Notices, Sockets};
+use xp_tcp::{Caller, Ends, LinePlaces, Notices, Sockets};
 
 /// A clear request, as a frame (RFC 1613).
 const CLEAR: &[u8] = b"\x00\x00\x00\x05\x10\x01\x13\x00\x00";
@@ -17,7 +17,8 @@ const CLEAR: &[u8] = b"\x00\x00\x00\x05\x10\x01\x13\x00\x00";
 fn ends_of<R: Net>(rt: &R, alloc: Global) -> Result<Ends, Fail> {
     let router = SocketAddr::V4(SocketAddrV4::new(Ipv4Addr::LOCALHOST, 1998));
     let notices = Arc::new(alloc, Notices::new(alloc, Start::read())?)?;
-    let mut sockets = Sockets::new(alloc, 1, NonZeroUsize::MIN, notices)?;
+    let places = Arc::new(alloc, LinePlaces::new(notices))?;
+    let mut sockets = Sockets::new(alloc, 1, NonZeroUsize::MIN, places)?;
     let caller = Caller {
         modulus: Modulus::Eight,
         station: 0,

@@ -86,9 +86,9 @@ pub trait RecordSink: Drop {
         ensures named { named_by self.new ≡ named_by self.old }
         ensures keeps { keeps self.old self.new };
 
-    /// Is told what became of the subscriptions that the sink handed out last, behind the records of the calls that ended before
-    /// that. Where they are in force, the charging records at that moment are those that it was given so far, and it tells further
-    /// ones by them.
+    /// Is told what became of the subscriptions that the sink handed out last. Where they are in force, it was given the records of the
+    /// calls that ended before, also of those that ended as lines were given up: the charging records at that moment are those that it
+    /// was given so far, and it tells further ones by the new subscriptions.
     fn reloaded(&mut self, outcome: Result<(), NotInForce>)
         requires lines { lines self.old ≡ line_count (tables self.old) }
         requires in_force { OnOk outcome ((next : Tables) × has_handed self.old next × AreInForce (tables self.old) (received self.old) next) }

@@ -15,7 +15,7 @@ use Rattle.xp_step.proofs.RunLemmas.{run_keeps}
 
 -- the tables in force may come into force again
 pub follows_itself : (force : Tables) (world : World) → IsSound force → MayFollow force world force
-follows_itself force world sound = record { sound = sound; frame = frame_kept force; idle = λ line within differs. absurd (differs refl) }
+follows_itself force world sound = record { sound = sound; frame = frame_kept force; out = λ line within goes. absurd (goes (record { name = refl; access = refl })); idle = λ line within stays differs. absurd (differs refl) }
 
 module _ {A : Type 0} where
   -- one entry more

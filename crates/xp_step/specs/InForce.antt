@@ -1,13 +1,14 @@
 -- The tables in force: those with which the exchange was opened, until a reload brings others.
-use Rattle.std.specs.Prelude.{◌≡◌, ◌≢◌, ◌<◌, ℕ, None, List, [], ◌∷◌, option_to_list}
-use Rattle.xp_reload.specs.Frame.{IsSameFrame}
+use Rattle.std.specs.Prelude.{◌≡◌, ◌≢◌, ◌<◌, ℕ, true, None, List, [], ◌∷◌, option_to_list}
+use Rattle.xp_reload.specs.Frame.{IsSameFrame, KeepsLine}
 use Rattle.xp_subs.specs.Sound.{IsSound}
-use Rattle.xp_subs.specs.Tables.{Tables, address_of, line_count}
+use Rattle.xp_subs.specs.Tables.{Tables, address_of, line_at, line_count}
 use Rattle.xp_step.specs.declared.entry.Entry.{Entry}
 use Rattle.xp_step.specs.declared.event.What.{What}
 use Rattle.xp_step.specs.declared.event.What.TheVariants as events
 use Rattle.xp_step.specs.declared.in_force.SubsInForce.{SubsInForce}
-use Rattle.xp_machine.specs.World.{World, call_on}
+use Rattle.xp_machine.specs.Channel.{is_off}
+use Rattle.xp_machine.specs.World.{World, call_on, state_at}
 
 -- the last of these tables, or those before them
 abbrev pub last_of : Tables → List Tables → Tables
@@ -22,8 +23,11 @@ force_of subs = last_of subs.opening (option_to_list subs.reloaded)
 pub record MayFollow (force : Tables) (world : World) (next : Tables) : Type 0 where
   pub sound : IsSound next
   pub frame : IsSameFrame force next
-  -- a line whose address changes is in no call
-  pub idle : (line : ℕ) → line < line_count force → address_of next line ≢ address_of force line → call_on world line ≡ None
+  -- a place that does not keep its line is out of service
+  pub out : (line : ℕ) → line < line_count force → (KeepsLine (line_at force line) (line_at next line) → ⊥) → is_off (state_at world line) ≡ true
+  -- a line that stays, and whose address changes, is in no call
+  pub idle : (line : ℕ) → line < line_count force → KeepsLine (line_at force line) (line_at next line)
+      → address_of next line ≢ address_of force line → call_on world line ≡ None
 
 module _ {A : Type 0} where
   -- the tables in force after a history that began with these

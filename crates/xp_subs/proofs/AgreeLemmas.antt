@@ -8,7 +8,7 @@ use Rattle.std.proofs.lemmas.List.{get_or_append_left}
 use Rattle.std.proofs.lemmas.List.Quantifiers.{position-Some}
 use Rattle.xp_file.specs.Name.{same}
 use Rattle.xp_file.specs.declared.entry.Access.{Access}
-use Rattle.xp_file.specs.declared.entry.Access.TheVariants.{Port, Router}
+use Rattle.xp_file.specs.declared.entry.Access.TheVariants.{Port, Router, Spare}
 use Rattle.xp_subs.specs.declared.target.Target.{Target}
 use Rattle.xp_subs.specs.steps.Passes.{Used, with_address, with_name, with_port, with_access, with_own}
 use Rattle.xp_subs.specs.Tables.{holds}
@@ -166,6 +166,8 @@ module _ (stations names : List (List ℕ)) (lines : List Own) (used : Used) (ag
   pub add_access : (access : Access) (more : Used) → with_access access used ≡ Ok more → Agrees stations names lines more
   add_access (Port port) more entered = add_port port more entered
   add_access (Router router) more entered =
+      let is : used ≡ more = (let e : Ok used ≡ Ok more = entered in cc) in subst (Agrees stations names lines) is agree
+  add_access Spare more entered =
       let is : used ≡ more = (let e : Ok used ≡ Ok more = entered in cc) in subst (Agrees stations names lines) is agree
 
   -- one more line, with its own address or without

@@ -1,25 +1,32 @@
 -- The stations and lines that are built: which line is whose, and what the indexes say of them.
-use Rattle.std.proofs.Common.{◌≡◌, ℕ, zero, suc, ◌+◌, ◌-◌, ◌<◌, ◌≤◌, List, [], ◌∷◌, ◌++◌, true, Option, None, Some, ◌⊎◌, inl, inr, Contains, All, IsTrue, Ok, length, map, get_or, refl, sym, ap, subst, ◌∙◌, arith, length-append}
-use Rattle.std.specs.Prelude.{position}
+use Rattle.std.proofs.Common.{◌≡◌, ℕ, zero, suc, ◌+◌, ◌-◌, ◌<◌, ◌≤◌, List, [], ◌∷◌, ◌++◌, true, false, not, ◌&&◌, Option, None, Some, ◌⊎◌, inl, inr, Contains, All, IsTrue, Ok, length, map, replicate, get_or, refl, sym, ap, subst, ◌∙◌, arith, length-append}
+use Rattle.std.specs.Prelude.{option_map, position}
 use Rattle.std.specs.List.{list_all}
 use Rattle.std.specs.Map.{lookup}
 use Rattle.std.proofs.lemmas.Bool.{cases_lt, and_parts}
-use Rattle.std.proofs.lemmas.List.{get_or_append_left, get_or-append_right, length-map, map-append}
+use Rattle.std.proofs.lemmas.List.{get_or_append_left, get_or-append_right, get_or-replicate, get_or_past, length-map, length-replicate, map-append, map-id}
 use Rattle.std.proofs.lemmas.List.Elements.{All-head, All-tail, All-append, All-nil, All-cons}
 use Rattle.std.proofs.lemmas.List.Quantifiers.{position-Some}
 use Rattle.std.proofs.lemmas.List.Sums.{sum_by-cons}
+use Rattle.xp_file.specs.declared.entry.Access.{Access}
+use Rattle.xp_file.specs.declared.entry.Access.TheVariants.{Port, Router, Spare}
 use Rattle.xp_file.specs.declared.entry.GroupEntry.{GroupEntry}
 use Rattle.xp_file.specs.declared.entry.LineEntry.{LineEntry}
 use Rattle.xp_file.specs.Entries.{AreLimits, StationData, IsAccess, IsLineEntry, IsGroupEntry}
 use Rattle.xp_file.specs.Name.{same, is_line_name}
 use Rattle.xp_file.specs.Routers.{IsPort}
 use Rattle.xp_file.specs.Sources.{AreSources}
+use Rattle.xp_packets.specs.declared.modulus.Modulus.{Modulus}
+use Rattle.xp_packets.specs.declared.modulus.Modulus.TheVariants.{Eight, Long}
 use Rattle.xp_subs.specs.declared.line.Line.{Line}
 use Rattle.xp_subs.specs.declared.station.Membership.{Membership}
 use Rattle.xp_subs.specs.declared.station.Station.{Station}
 use Rattle.xp_subs.specs.declared.target.Target.{Target}
-use Rattle.xp_subs.specs.Built.{numbers, line_from, lines_of, lines_from, membership_from, memberships_of, station_from, stations_from, mentions, tables_of}
+use Rattle.xp_subs.specs.Built.{numbers, line_from, lines_of, lines_from, membership_from, memberships_of, station_from, stations_from, mentions, spare_places, tables_of}
+use Rattle.xp_subs.specs.Bounds.{most_lines}
+use Rattle.xp_subs.specs.Laid.{station_with}
 use Rattle.xp_subs.specs.steps.Built.{AreKnown}
+use Rattle.xp_subs.specs.steps.Moved.{IsMoved, moved_tables, moved_target}
 use Rattle.xp_file.specs.SubscriptionFile.{FileData}
 use Rattle.xp_subs.specs.declared.subs.Subs.TheInside.{Inside}
 use Rattle.xp_subs.specs.Consistency.{tables}
@@ -28,14 +35,16 @@ use Rattle.xp_subs.specs.steps.WithinLimits.{AreWithinLimits, IsStationWithinLim
 use Rattle.xp_subs.specs.Passes.{line_total, has_own_indexes}
 use Rattle.xp_subs.specs.steps.Passes.{Used, nothing_used, with_stations}
 use Rattle.xp_subs.specs.Sound.{IsSound, IsTarget, HasAddress, HasShortIndexes, HasOwnGroups, Lists}
-use Rattle.xp_subs.specs.Tables.{Tables, holds, no_line, no_station, station_at, line_at, station_of, target_of, line_named_of, has_address, whole_station, one_line, first_target, station_count, line_count}
+use Rattle.xp_subs.specs.Tables.{Tables, IsThere, has_name, is_no_access, is_spare, modulus_of, spare_place, no_line, no_station, station_at, line_at, station_of, target_of, line_named_of, has_address, whole_station, one_line, first_target, station_count, line_count}
 use Rattle.xp_subs.proofs.AgreeLemmas.{Agrees, Own, owns, no_own, lead}
 use Rattle.xp_subs.proofs.EntersLemmas.{own_list, name_list, station_addresses, all_names, all_owns, stations_agree}
 use Rattle.xp_subs.proofs.GroupLemmas.{mentions_once, all_known, own_groups}
 use Rattle.xp_subs.proofs.UsesLemmas.{all_once, line_ports_once}
-use Rattle.xp_subs.proofs.PositionLemmas.{position-map}
-use Rattle.xp_subs.proofs.TableLemmas.{same_is}
+use Rattle.xp_subs.proofs.MovedLemmas.{moved_sound, name_moved, target_moved}
+use Rattle.xp_subs.proofs.PositionLemmas.{get_or-shown, position-alike, position-map}
+use Rattle.xp_subs.proofs.TableLemmas.{held_is, named_is, same_is}
 use Rattle.xp_file.proofs.Choices.{none_is_some}
+use Rattle.xp_subs.proofs.There.{true_is_false}
 
 length-numbers : (first count : ℕ) → length (numbers first count) ≡ count
 length-numbers first zero = refl
@@ -213,11 +222,6 @@ short_indexes known (group ∷ groups) all =
     All-cons (λ (membership : Membership). membership.index ≤ 9_999) (membership_from known group) (memberships_of known groups)
     (All-head IsGroupEntry group groups all) (short_indexes known groups (All-tail IsGroupEntry group groups all))
 
-get_or-shown : {X Y : Type 0} (f : X → Y) (xs : List X) (i : ℕ) (d : X) → get_or (map f xs) i (f d) ≡ f (get_or xs i d)
-get_or-shown f [] i d = refl
-get_or-shown f (x ∷ xs) zero d = refl
-get_or-shown f (x ∷ xs) (suc i) d = get_or-shown f xs i d
-
 lead_shown : (lines : List Line) (s l : Option ℕ) → first_target (whole_station s) (one_line lines l) ≡ lead (map own_of lines) s l
 unfolding own_of
 lead_shown lines (Some s) l = refl
@@ -226,7 +230,8 @@ lead_shown lines None (Some l) =
     ap (λ (o : Own). Some (let t : Target = record { station = o.0; line = Some l } in t)) (sym (get_or-shown own_of lines l no_line))
 
 module _ (tables : Tables) (used : Used)
-    (agree : Agrees (map (λ (s : Station). s.address) tables.stations) (map (λ (l : Line). l.name) tables.lines) (map own_of tables.lines) used) where
+    (agree : Agrees (map (λ (s : Station). s.address) tables.stations) (map (λ (l : Line). l.name) tables.lines) (map own_of tables.lines) used)
+    (there : All (λ (l : Line). is_spare l ≡ false) tables.lines) where
   -- what an address leads to, by the addresses alone
   lead_of : (a : List ℕ)
       → lead (map own_of tables.lines) (position (same a) (map (λ (s : Station). s.address) tables.stations)) (position (owns a) (map own_of tables.lines))
@@ -240,8 +245,15 @@ module _ (tables : Tables) (used : Used)
   targets_agree : (a : List ℕ) → lookup (same a) used.targets ≡ target_of tables a
   targets_agree a = agree.targets a ∙ lead_of a
 
+  -- a name leads to the line that has it, by the names alone
+  named_by : (n : List ℕ) → position (same n) (map (λ (l : Line). l.name) tables.lines) ≡ line_named_of tables n
+  named_by n =
+      position-map (same n) (λ (l : Line). l.name) tables.lines
+      ∙ position-alike (λ (l : Line). same n l.name) (has_name n) tables.lines
+      (λ k d within. ap (λ b. not b && same n (get_or tables.lines k d).name) (sym (there k d within)))
+
   names_agree : (n : List ℕ) → lookup (same n) used.names ≡ line_named_of tables n
-  names_agree n = agree.names_found n ∙ position-map (same n) (λ (l : Line). l.name) tables.lines
+  names_agree n = agree.names_found n ∙ named_by n
 
   station_found : (station : ℕ) → station < station_count tables
       → target_of tables (station_at tables station).address ≡ Some (record { station = station; line = None })
@@ -266,7 +278,7 @@ module _ (tables : Tables) (used : Used)
   named line within =
       let inside : line < length (map (λ (l : Line). l.name) tables.lines) = omega (arith, within, length-map tables.lines (λ (l : Line). l.name)) in
       ap (line_named_of tables) (sym (get_or-shown (λ (l : Line). l.name) tables.lines line no_line))
-      ∙ sym (position-map (same (get_or (map (λ (l : Line). l.name) tables.lines) line [])) (λ (l : Line). l.name) tables.lines)
+      ∙ sym (named_by (get_or (map (λ (l : Line). l.name) tables.lines) line []))
       ∙ agree.names_once line inside
 
   leads_in : ((line : ℕ) → line < line_count tables → station_of tables line < station_count tables)
@@ -286,10 +298,6 @@ module _ (tables : Tables) (used : Used)
           let this : record { station = station_of tables l; line = Some l } ≡ target = cc in
           subst (IsTarget tables) this (placed l within, (within, refl))
       by None e None f is = absurd (none_is_some is)
-
-held_is : (a : List ℕ) (own : Option (List ℕ)) → holds a own ≡ true → own ≡ Some a
-held_is a None e = cc
-held_is a (Some x) e = ap (λ y. Some y) (sym (same_is a x e))
 
 -- an address leads only to where it stands
 leads_held : (tables : Tables) (a : List ℕ) (target : Target) → target_of tables a ≡ Some target → HasAddress tables target a
@@ -313,8 +321,8 @@ leads_held tables a target found =
 name_held : (tables : Tables) (n : List ℕ) (line : ℕ) → line_named_of tables n ≡ Some line
     → (line < line_count tables) × ((line_at tables line).name ≡ n)
 name_held tables n line found =
-    let (within, here, _) = position-Some (λ (l : Line). same n l.name) tables.lines line no_line found in
-    (within, sym (same_is n (line_at tables line).name here))
+    let (within, here, _) = position-Some (has_name n) tables.lines line no_line found in
+    (within, sym (named_is n (line_at tables line) here).1)
 
 all_own : (tables : Tables) (line : ℕ) (entries : List StationData) → All (AreKnown tables.groups) entries → list_all has_own_indexes entries ≡ true
     → All (HasOwnGroups tables) (stations_from tables.groups line entries)
@@ -325,10 +333,61 @@ all_own tables line (entry ∷ entries) known own =
     (own_groups tables line entry (All-head (AreKnown tables.groups) entry entries known) both.0)
     (all_own tables (line + length entry.lines) entries (All-tail (AreKnown tables.groups) entry entries known) both.1)
 
+-- the tables of a file without the places that it reserves
+bare_of : FileData → Tables
+bare_of file = record {
+  stations = stations_from (mentions [] file.stations) 0 file.stations;
+  lines = lines_from 0 file.stations;
+  groups = mentions [] file.stations;
+  segment_limit = file.segment_limit;
+  journal = file.journal;
+  host = file.host;
+  xot_port = file.xot_port;
+  name = file.name;
+}
+
+access_there : (access : Access) → IsAccess access → is_no_access access ≡ false
+access_there (Port port) is = refl
+access_there (Router router) is = refl
+access_there Spare is = absurd is
+
+-- the reserved places
+spare_at : (file : FileData) (i : ℕ) → i < length (spare_places file) → (modulus : Modulus) × (get_or (spare_places file) i no_line ≡ spare_place modulus)
+spare_at file i within =
+    let eights = replicate file.spare_lines (spare_place Eight) in
+    let longs = replicate file.spare_lines_128 (spare_place Long) in
+    let long : length eights ≡ file.spare_lines = length-replicate file.spare_lines (spare_place Eight) in
+    let longer : length longs ≡ file.spare_lines_128 = length-replicate file.spare_lines_128 (spare_place Long) in
+    elim (cases_lt i (length eights)) [
+      | inl below ↦ (Eight, get_or_append_left eights longs no_line i below ∙ get_or-replicate file.spare_lines i (spare_place Eight) no_line (omega (arith, below, long)))
+      | inr above ↦
+          let rest : i - length eights < file.spare_lines_128 = omega (arith, within, above, longer, length-append eights longs) in
+          (Long, get_or-append_right eights longs (length eights) i no_line refl above ∙ get_or-replicate file.spare_lines_128 (i - length eights) (spare_place Long) no_line rest)
+    ]
+
+station_same : (s : Station) → station_with (λ n. n) s ≡ s
+station_same s = ap (λ items. record s { lines = record { items = items } }) (map-id s.lines.items)
+
+stations_same : (stations : List Station) → map (station_with (λ n. n)) stations ≡ stations
+stations_same [] = refl
+stations_same (s ∷ stations) = ap (λ x. x ∷ map (station_with (λ n. n)) stations) (station_same s) ∙ ap (λ xs. s ∷ xs) (stations_same stations)
+
+target_same : (found : Option Target) → option_map (moved_target (λ n. n)) found ≡ found
+target_same None = refl
+target_same (Some target) = ap (λ l. Some (let t : Target = record { station = target.station; line = l } in t)) (line_same target.line)
+  where
+    line_same : (l : Option ℕ) → option_map (λ n. n) l ≡ l
+    line_same None = refl
+    line_same (Some l) = refl
+
+name_same : (found : Option ℕ) → option_map (λ n. n) found ≡ found
+name_same None = refl
+name_same (Some l) = refl
+
 -- the facts of a file that is built
 module _ (file : FileData) (used : Used) (fit : AreWithinLimits file.stations) (some : 0 < length file.stations)
     (limits : AreLimits file.segment_limit file.journal) (port : IsPort file.xot_port) (once : with_stations 0 0 file.stations nothing_used ≡ Ok used)
-    (own : list_all has_own_indexes file.stations ≡ true) where
+    (own : list_all has_own_indexes file.stations ≡ true) (places : line_total file.stations + file.spare_lines + file.spare_lines_128 ≤ most_lines) where
   entries : List StationData
   entries = file.stations
 
@@ -341,105 +400,205 @@ module _ (file : FileData) (used : Used) (fit : AreWithinLimits file.stations) (
     names_once = λ i within. absurd (omega arith);
   }
 
-  all_agree : Agrees (map (λ (s : Station). s.address) (tables_of file).stations) (map (λ (l : Line). l.name) (tables_of file).lines)
-      (map own_of (tables_of file).lines) used
-  unfolding tables_of
+  all_agree : Agrees (map (λ (s : Station). s.address) (bare_of file).stations) (map (λ (l : Line). l.name) (bare_of file).lines)
+      (map own_of (bare_of file).lines) used
+  unfolding bare_of
   all_agree =
       rw (stations_from-addresses (mentions [] file.stations) 0 file.stations, lines_from-names 0 file.stations, lines_from-owns 0 file.stations)
       (stations_agree file.stations [] [] [] nothing_used used 0 0 refl refl refl nothing_agrees once)
 
-  pub built_targets : (a : List ℕ) → lookup (same a) used.targets ≡ target_of (tables_of file) a
-  built_targets = targets_agree (tables_of file) used all_agree
-
-  pub built_names : (n : List ℕ) → lookup (same n) used.names ≡ line_named_of (tables_of file) n
-  built_names = names_agree (tables_of file) used all_agree
-
-  built_placed : (line : ℕ) → line < line_count (tables_of file)
-      → (station_of (tables_of file) line < station_count (tables_of file)) × Lists (tables_of file) (station_of (tables_of file) line) line
-  unfolding tables_of Placed
-  built_placed line within =
+  bare_placed : (line : ℕ) → line < line_count (bare_of file)
+      → (station_of (bare_of file) line < station_count (bare_of file)) × Lists (bare_of file) (station_of (bare_of file) line) line
+  unfolding bare_of Placed
+  bare_placed line within =
       let (k, below, station, held) = placed (mentions [] file.stations) 0 0 file.stations line within in
-      let same_station : station_of (tables_of file) line ≡ k = station ∙ omega arith in
+      let same_station : station_of (bare_of file) line ≡ k = station ∙ omega arith in
       let same_line : 0 + line ≡ line = omega arith in
       rw same_station (
         omega (arith, below, stations_from-length (mentions [] file.stations) 0 file.stations),
-        subst (Contains (station_at (tables_of file) k).lines.items) same_line held,
+        subst (Contains (station_at (bare_of file) k).lines.items) same_line held,
       )
 
-  built_own : (station line : ℕ) → station < station_count (tables_of file) → Lists (tables_of file) station line
-      → (line < line_count (tables_of file)) × (station_of (tables_of file) line ≡ station)
-  unfolding tables_of Owned
-  built_own station line within held =
+  bare_own : (station line : ℕ) → station < station_count (bare_of file) → Lists (bare_of file) station line
+      → (line < line_count (bare_of file)) × (station_of (bare_of file) line ≡ station)
+  unfolding bare_of Owned
+  bare_own station line within held =
       let below : station < length file.stations = omega (arith, within, stations_from-length (mentions [] file.stations) 0 file.stations) in
       let (l, is, inside, at) = owned (mentions [] file.stations) 0 0 file.stations station line below held in
       let same_line : l ≡ line = omega (arith, is) in
-      subst (λ l. (l < line_count (tables_of file)) × (station_of (tables_of file) l ≡ station)) same_line (inside, at ∙ omega arith)
+      subst (λ l. (l < line_count (bare_of file)) × (station_of (bare_of file) l ≡ station)) same_line (inside, at ∙ omega arith)
 
   at_least_one : (entries : List StationData) → 0 < length entries → All IsStationWithinLimits entries → 0 < line_total entries
   at_least_one [] none each = absurd (omega arith)
   at_least_one (entry ∷ entries) here each =
       omega (arith, (All-head IsStationWithinLimits entry entries each).entry.some, sum_by-cons (λ (station : StationData). length station.lines) entry entries)
 
-  built_line : (line : ℕ) → line < line_count (tables_of file) → IsLine (line_at (tables_of file) line)
-  unfolding tables_of
-  built_line line within = all_lines 0 file.stations fit.each line no_line within
+  bare_line : (line : ℕ) → line < line_count (bare_of file) → IsLine (line_at (bare_of file) line)
+  unfolding bare_of
+  bare_line line within = all_lines 0 file.stations fit.each line no_line within
 
-  built_indexes : (station : ℕ) → station < station_count (tables_of file) → HasShortIndexes (station_at (tables_of file) station)
-  unfolding tables_of
-  built_indexes station within =
+  bare_indexes : (station : ℕ) → station < station_count (bare_of file) → HasShortIndexes (station_at (bare_of file) station)
+  unfolding bare_of
+  bare_indexes station within =
       all_built {P = IsStationWithinLimits} HasShortIndexes (mentions [] file.stations) 0 file.stations
       (λ line entry is. short_indexes (mentions [] file.stations) entry.groups is.entry.groups) fit.each station no_station within
 
-  built_groups : (station : ℕ) → station < station_count (tables_of file) → HasOwnGroups (tables_of file) (station_at (tables_of file) station)
-  unfolding tables_of
-  built_groups station within =
-      all_own (tables_of file) 0 file.stations (all_known file.stations) own station no_station within
+  bare_groups : (station : ℕ) → station < station_count (bare_of file) → HasOwnGroups (bare_of file) (station_at (bare_of file) station)
+  unfolding bare_of
+  bare_groups station within =
+      all_own (bare_of file) 0 file.stations (all_known file.stations) own station no_station within
 
-  pub built_sound : IsSound (tables_of file)
-  unfolding tables_of
-  built_sound = record {
+  all_there : All (λ (l : Line). is_spare l ≡ false) (bare_of file).lines
+  unfolding bare_of
+  all_there k d within = access_there (get_or (lines_from 0 file.stations) k d).access (all_lines 0 file.stations fit.each k d within).1
+
+  not_spare : (line : ℕ) → is_spare (line_at (bare_of file) line) ≡ false
+  not_spare line =
+      elim (cases_lt line (line_count (bare_of file))) [
+        | inl below ↦ all_there line no_line below
+        | inr above ↦ ap is_spare (get_or_past (bare_of file).lines line no_line above)
+      ]
+
+  bare_sound : IsSound (bare_of file)
+  unfolding bare_of
+  bare_sound = record {
     some_line = omega (arith, lines_from-length 0 file.stations, at_least_one file.stations some fit.each);
     few_lines = omega (arith, lines_from-length 0 file.stations, fit.lines);
     few_stations = omega (arith, stations_from-length (mentions [] file.stations) 0 file.stations, fit.few);
-    placed = λ line within. (built_placed line within).0;
-    listed = λ line within. (built_placed line within).1;
-    own = built_own;
-    station_found = station_found (tables_of file) used all_agree;
-    line_found = line_found (tables_of file) used all_agree;
-    named = named (tables_of file) used all_agree;
-    target = leads_in (tables_of file) used all_agree (λ line within. (built_placed line within).0);
-    address_held = leads_held (tables_of file);
-    name_held = name_held (tables_of file);
-    indexes = built_indexes;
-    own_groups = built_groups;
+    spare = λ line spare. absurd (true_is_false (sym spare ∙ not_spare line));
+    placed = λ line there. (bare_placed line there.0).0;
+    listed = λ line there. (bare_placed line there.0).1;
+    own = bare_own;
+    station_found = station_found (bare_of file) used all_agree all_there;
+    line_found = line_found (bare_of file) used all_agree all_there;
+    named = λ line there. named (bare_of file) used all_agree all_there line there.0;
+    target = leads_in (bare_of file) used all_agree all_there (λ line within. (bare_placed line within).0);
+    address_held = leads_held (bare_of file);
+    name_held = name_held (bare_of file);
+    indexes = bare_indexes;
+    own_groups = bare_groups;
     names_of_groups = mentions_once file.stations;
-    accesses = λ line within. (built_line line within).1;
+    accesses = λ line there. (bare_line line there.0).1;
     ports_once = line_ports_once 0 file.stations (all_once file.stations used once);
     xot_port = port;
     limits = limits;
-    spelled = λ line within. (built_line line within).0;
-    sources = λ line within. (built_line line within).2;
+    spelled = λ line there. (bare_line line there.0).0;
+    sources = λ line within. (bare_line line within).2;
   }
+
+  -- the reserved places stand behind the lines, each of which keeps its number
+  full : Tables
+  full = moved_tables (λ n. n) (bare_of file) (lines_from 0 file.stations ++ spare_places file)
+
+  full_is : full ≡ tables_of file
+  unfolding tables_of bare_of full
+  full_is = rw (stations_same (stations_from (mentions [] file.stations) 0 file.stations))
+
+  full_lines : line_count full ≡ line_total file.stations + file.spare_lines + file.spare_lines_128
+  unfolding full
+  full_lines = omega (
+    arith,
+    lines_from-length 0 file.stations,
+    length-append (lines_from 0 file.stations) (spare_places file),
+    length-append (replicate file.spare_lines (spare_place Eight)) (replicate file.spare_lines_128 (spare_place Long)),
+    length-replicate file.spare_lines (spare_place Eight),
+    length-replicate file.spare_lines_128 (spare_place Long),
+  )
+
+  -- a place of the full tables is a line of the file, or a reserved one, or there is none
+  Kinds : ℕ → Type 0
+  Kinds at =
+      ((at < line_count (bare_of file)) × (line_at full at ≡ line_at (bare_of file) at))
+      ⊎ (((modulus : Modulus) × (line_at full at ≡ spare_place modulus)) ⊎ ((line_count full ≤ at) × (line_at full at ≡ no_line)))
+
+  kinds : (at : ℕ) → Kinds at
+  unfolding bare_of full Kinds
+  kinds at =
+      let lines = lines_from 0 file.stations in
+      elim (cases_lt at (length lines)) [
+        | inl below ↦ inl (below, get_or_append_left lines (spare_places file) no_line at below)
+        | inr above ↦
+            let is : line_at full at ≡ get_or (spare_places file) (at - length lines) no_line =
+            get_or-append_right lines (spare_places file) (length lines) at no_line refl above in
+            elim (cases_lt (at - length lines) (length (spare_places file))) [
+              | inl below ↦ let (modulus, spare) = spare_at file (at - length lines) below in inr (inl (modulus, is ∙ spare))
+              | inr past ↦ inr (inr (omega (arith, above, past, length-append lines (spare_places file)), is ∙ get_or_past (spare_places file) (at - length lines) no_line past))
+            ]
+      ]
+
+  full_others : (at : ℕ) → IsThere full at → (line : ℕ) × IsThere (bare_of file) line × (line ≡ at)
+  unfolding Kinds
+  full_others at there = by (kinds at)
+    where
+      by : Kinds at → (line : ℕ) × IsThere (bare_of file) line × (line ≡ at)
+      by (inl (below, is)) = (at, (below, not_spare at), refl)
+      by (inr (inl (modulus, is))) = absurd (true_is_false (sym (ap is_spare is) ∙ there.1))
+      by (inr (inr (past, is))) = absurd (omega (arith, past, there.0))
+
+  full_blank : (at : ℕ) → is_spare (line_at full at) ≡ true → line_at full at ≡ spare_place (modulus_of full at)
+  unfolding Kinds
+  full_blank at spare = by (kinds at)
+    where
+      by : Kinds at → line_at full at ≡ spare_place (modulus_of full at)
+      by (inl (below, is)) = absurd (true_is_false (sym spare ∙ ap is_spare is ∙ not_spare at))
+      by (inr (inl (modulus, is))) = is ∙ ap (λ (l : Line). spare_place l.modulus) (sym is)
+      by (inr (inr (past, is))) = absurd (true_is_false (sym spare ∙ ap is_spare is))
+
+  full_moved : IsMoved (λ n. n) (bare_of file) full
+  unfolding bare_of full
+  full_moved = record {
+    some = omega (arith, full_lines, at_least_one file.stations some fit.each);
+    few = omega (arith, full_lines, places);
+    apart = λ one other there also is. is;
+    stands = λ line there. (
+      omega (arith, there.0, length-append (lines_from 0 file.stations) (spare_places file)),
+      get_or_append_left (lines_from 0 file.stations) (spare_places file) no_line line there.0,
+    );
+    others = full_others;
+    blank = full_blank;
+  }
+
+  pub built_sound : IsSound (tables_of file)
+  unfolding full
+  built_sound = subst IsSound full_is (moved_sound (bare_of file) (λ n. n) (lines_from 0 file.stations ++ spare_places file) bare_sound full_moved)
+
+  pub built_targets : (a : List ℕ) → lookup (same a) used.targets ≡ target_of (tables_of file) a
+  unfolding full
+  built_targets a =
+      targets_agree (bare_of file) used all_agree all_there a
+      ∙ sym (target_same (target_of (bare_of file) a))
+      ∙ sym (target_moved (bare_of file) (λ n. n) (lines_from 0 file.stations ++ spare_places file) bare_sound full_moved a)
+      ∙ ap (λ t. target_of t a) full_is
+
+  pub built_names : (n : List ℕ) → lookup (same n) used.names ≡ line_named_of (tables_of file) n
+  unfolding full
+  built_names n =
+      names_agree (bare_of file) used all_agree all_there n
+      ∙ sym (name_same (line_named_of (bare_of file) n))
+      ∙ sym (name_moved (bare_of file) (λ n. n) (lines_from 0 file.stations ++ spare_places file) bare_sound full_moved n)
+      ∙ ap (λ t. line_named_of t n) full_is
 
 -- what a `Subs` of such a file keeps
 pub built_keeps : (inside : Inside) (file : FileData) (used : Used) → AreWithinLimits file.stations → 0 < length file.stations
     → AreLimits file.segment_limit file.journal → IsPort file.xot_port → with_stations 0 0 file.stations nothing_used ≡ Ok used
-    → list_all has_own_indexes file.stations ≡ true → tables inside ≡ tables_of file
-    → inside.targets.entries ≡ used.targets → inside.names.entries ≡ used.names
+    → list_all has_own_indexes file.stations ≡ true → line_total file.stations + file.spare_lines + file.spare_lines_128 ≤ most_lines
+    → tables inside ≡ tables_of file
+    → inside.targets.entries ≡ used.targets → inside.names.entries ≡ used.names → inside.nobody ≡ no_station
     → IsConsistent inside
-built_keeps inside file used fit some limits port once own is targets names = record {
-  sound = subst IsSound (sym is) (built_sound file used fit some limits port once own);
-  targets = λ a. ap (lookup (same a)) targets ∙ built_targets file used fit some limits port once own a ∙ ap (λ t. target_of t a) (sym is);
-  names = λ n. ap (lookup (same n)) names ∙ built_names file used fit some limits port once own n ∙ ap (λ t. line_named_of t n) (sym is);
+built_keeps inside file used fit some limits port once own places is targets names nobody = record {
+  sound = subst IsSound (sym is) (built_sound file used fit some limits port once own places);
+  targets = λ a. ap (lookup (same a)) targets ∙ built_targets file used fit some limits port once own places a ∙ ap (λ t. target_of t a) (sym is);
+  names = λ n. ap (lookup (same n)) names ∙ built_names file used fit some limits port once own places n ∙ ap (λ t. line_named_of t n) (sym is);
+  nobody = nobody;
 }
 
 -- the tables that were built of the parts of a file
-pub built_tables : (file : FileData) (limit journal : ℕ) (host : List ℕ) (xot_port : ℕ) (name : Option (List ℕ)) (entries first second third : List StationData)
+pub built_tables : (file : FileData) (limit journal : ℕ) (host : List ℕ) (xot_port : ℕ) (name : Option (List ℕ)) (eights longs : ℕ) (entries first second third : List StationData)
     (known : List (List ℕ)) (stations : List Station) (lines : List Line)
-    → record { segment_limit = limit; journal = journal; host = host; xot_port = xot_port; name = name; stations = entries } ≡ file
+    → record { segment_limit = limit; journal = journal; host = host; xot_port = xot_port; name = name; spare_lines = eights; spare_lines_128 = longs; stations = entries } ≡ file
     → first ≡ entries → known ≡ mentions [] first → second ≡ entries → stations ≡ stations_from known 0 second
-    → third ≡ entries → lines ≡ lines_from 0 third
+    → third ≡ entries → lines ≡ lines_from 0 third ++ spare_places file
     → record { stations = stations; lines = lines; groups = known; segment_limit = limit; journal = journal; host = host; xot_port = xot_port; name = name } ≡ tables_of file
 unfolding tables_of
-built_tables file limit journal host xot_port name entries first second third known stations lines is a names b these c those =
-    rw (← is, these, those, names, a, b, c)
+built_tables file limit journal host xot_port name eights longs entries first second third known stations lines is a names b these c those =
+    rw (these, those, ← is, names, a, b, c)

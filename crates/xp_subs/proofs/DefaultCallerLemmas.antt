@@ -3,7 +3,7 @@ use Rattle.std.proofs.Common.{◌≡◌, ℕ, List, [], ◌∷◌, ◌++◌, Boo
 use Rattle.std.specs.List.{list_any}
 use Rattle.std.proofs.lemmas.Bool.{cases_Bool, and_parts, and_from, or_left, or_right}
 use Rattle.xp_file.specs.declared.entry.Access.{Access}
-use Rattle.xp_file.specs.declared.entry.Access.TheVariants.{Port, Router}
+use Rattle.xp_file.specs.declared.entry.Access.TheVariants.{Port, Router, Spare}
 use Rattle.xp_file.specs.declared.entry.LineEntry.{LineEntry}
 use Rattle.xp_file.specs.Entries.{StationData, is_behind}
 use Rattle.xp_subs.specs.DefaultCallers.{IsDefaultCaller, HasTwoDefaultCallers}
@@ -59,11 +59,13 @@ module _ {A : Type 0} (p : A → Bool) where
 beside : (lines : List LineEntry) (access : Access) → has_line_beside lines access ≡ true
     → (router : List ℕ) × (is_behind router access ≡ true) × (has_line_behind lines router ≡ true)
 beside lines (Port port) e = absurd (true≢false (sym e))
+beside lines Spare e = absurd (true≢false (sym e))
 beside lines (Router router) e = (router.address, same-itself router.address, e)
 
 behind_one : (router : List ℕ) (lines : List LineEntry) (access : Access) → is_behind router access ≡ true → has_line_behind lines router ≡ true
     → has_line_beside lines access ≡ true
 behind_one router lines (Port port) behind held = absurd (true≢false (sym behind))
+behind_one router lines Spare behind held = absurd (true≢false (sym behind))
 behind_one router lines (Router own) behind held = ap (has_line_behind lines) (same_is own.address router behind) ∙ held
 
 rivals : (one other : StationData) → are_rivals other one ≡ true → (router : List ℕ) × IsDefaultCaller router one × IsDefaultCaller router other

@@ -8,10 +8,11 @@ use Rattle.xp_file.specs.declared.fault.SubscriptionFault.{SubscriptionFault}
 use Rattle.xp_file.specs.declared.key.Key.{Key}
 use Rattle.xp_file.specs.declared.key.Key.TheVariants as keys
 use Rattle.xp_file.specs.Entries.{StationData, IsStationEntry}
+use Rattle.xp_file.specs.SubscriptionFile.{FileData}
 use Rattle.xp_subs.specs.Bounds.{most_lines, most_stations}
 use Rattle.xp_subs.specs.Built.{numbers}
 use Rattle.xp_subs.specs.steps.WithinLimits.{AreWithinLimits, IsStationWithinLimits}
-use Rattle.xp_subs.specs.Passes.{station_over, first_key, first_over, over_limit, line_total}
+use Rattle.xp_subs.specs.Passes.{station_over, first_key, first_over, over_limit, spare_over, file_over, line_total}
 use Rattle.xp_subs.specs.steps.Passes.{Used, with_station, with_stations}
 use Rattle.xp_file.proofs.Choices.{none_is_some}
 use Rattle.xp_file.proofs.Lists.{rest_at}
@@ -81,7 +82,22 @@ fits stations within even =
       each = all_fit stations rest even;
     }
 
-pub fits_as : (stations first second : List StationData) (over : Option Key) → over ≡ over_limit first → over ≡ None → first ≡ stations → second ≡ stations
-    → All IsStationEntry stations → AreWithinLimits second
-fits_as stations first second over is none one two even =
-    subst AreWithinLimits (sym two) (fits stations (ap over_limit (sym one) ∙ sym is ∙ none) even)
+-- a file that is over no limit
+pub file_fits : (file : FileData) (second : List StationData) (over : Option Key) → over ≡ file_over file → over ≡ None → second ≡ file.stations
+    → All IsStationEntry file.stations → AreWithinLimits second
+file_fits file second over is none two even =
+    subst AreWithinLimits (sym two) (fits file.stations (first_none (over_limit file.stations) (spare_over file) (sym is ∙ none)).0 even)
+
+pub places_fit : (file : FileData) → file_over file ≡ None → line_total file.stations + file.spare_lines + file.spare_lines_128 ≤ most_lines
+places_fit file none =
+    let (_, spare) = first_none (over_limit file.stations) (spare_over file) none in
+    let (_, more) = chosen_none (nat_lt most_lines (line_total file.stations + file.spare_lines)) keys.SpareLines _ spare in
+    let (fit, _) = chosen_none (nat_lt most_lines (line_total file.stations + file.spare_lines + file.spare_lines_128)) keys.SpareLines128 None more in
+    ltb-false most_lines (line_total file.stations + file.spare_lines + file.spare_lines_128) fit
+
+-- stations that are over no limit have few lines
+pub lines_fit : (stations : List StationData) → over_limit stations ≡ None → line_total stations ≤ most_lines
+lines_fit stations within =
+    let (_, more) = chosen_none (nat_lt most_stations (length stations)) keys.Station _ within in
+    let (lines, _) = chosen_none (nat_lt most_lines (line_total stations)) keys.Line (first_over stations) more in
+    ltb-false most_lines (line_total stations) lines

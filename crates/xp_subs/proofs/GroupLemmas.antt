@@ -132,6 +132,10 @@ module _ (known : List (List ℕ)) where
 pub all_known : (entries : List StationData) → All (AreKnown (mentions [] entries)) entries
 all_known entries = stations_known (mentions [] entries) entries (λ q here. mentions_member entries [] q ∙ here)
 
+pub known_as : (known : List (List ℕ)) (first second entries : List StationData) → known ≡ mentions [] first → first ≡ entries → second ≡ entries
+    → All (AreKnown known) second
+known_as known first second entries names one two = rw (names, one, two) (all_known entries)
+
 not_true : (b : Bool) → not b ≡ true → b ≡ false
 not_true true e = absurd (true_is_false (sym e))
 not_true false e = refl

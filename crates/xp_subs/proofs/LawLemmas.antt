@@ -52,36 +52,36 @@ nothing_twice : (stations : List StationData) (key : Key) → IsTwiceUsed statio
 nothing_twice stations key (inl (again, repeat, is)) once none = once repeat.before again repeat.after repeat.split repeat.again
 nothing_twice stations key (inr (other, two, is)) once none = none two
 
-refused_once : (stations : List StationData) (one other : SubscriptionFault) → Refuses stations one → Refuses stations other → one ≡ other
-refused_once stations (faults.Limit k) (faults.Limit l) a b = let is : k ≡ l = (let e = sym a ∙ b in cc) in ap (λ x. faults.Limit x) is
-refused_once stations (faults.Limit k) (faults.TwiceUsed l) a b = absurd (none_is_some (sym b.0 ∙ a))
-refused_once stations (faults.Limit k) faults.Index a b = absurd (none_is_some (sym b.0 ∙ a))
-refused_once stations (faults.TwiceUsed k) (faults.Limit l) a b = absurd (none_is_some (sym a.0 ∙ b))
-refused_once stations (faults.TwiceUsed k) (faults.TwiceUsed l) a b = ap (λ x. faults.TwiceUsed x) (key_once stations k l a.1 b.1)
-refused_once stations (faults.TwiceUsed k) faults.Index a b = absurd (nothing_twice stations k a.1 b.1 b.2)
-refused_once stations faults.Index (faults.Limit l) a b = absurd (none_is_some (sym a.0 ∙ b))
-refused_once stations faults.Index (faults.TwiceUsed l) a b = absurd (nothing_twice stations l b.1 a.1 a.2)
-refused_once stations faults.Index faults.Index a b = refl
-refused_once stations faults.Toml other a b = absurd a
-refused_once stations (faults.Field k) other a b = absurd a
-refused_once stations faults.Memory other a b = absurd a
-refused_once stations (faults.Limit k) faults.Toml a b = absurd b
-refused_once stations (faults.Limit k) (faults.Field l) a b = absurd b
-refused_once stations (faults.Limit k) faults.Memory a b = absurd b
-refused_once stations (faults.TwiceUsed k) faults.Toml a b = absurd b
-refused_once stations (faults.TwiceUsed k) (faults.Field l) a b = absurd b
-refused_once stations (faults.TwiceUsed k) faults.Memory a b = absurd b
-refused_once stations faults.Index faults.Toml a b = absurd b
-refused_once stations faults.Index (faults.Field l) a b = absurd b
-refused_once stations faults.Index faults.Memory a b = absurd b
+refused_once : (file : FileData) (one other : SubscriptionFault) → Refuses file one → Refuses file other → one ≡ other
+refused_once file (faults.Limit k) (faults.Limit l) a b = let is : k ≡ l = (let e = sym a ∙ b in cc) in ap (λ x. faults.Limit x) is
+refused_once file (faults.Limit k) (faults.TwiceUsed l) a b = absurd (none_is_some (sym b.0 ∙ a))
+refused_once file (faults.Limit k) faults.Index a b = absurd (none_is_some (sym b.0 ∙ a))
+refused_once file (faults.TwiceUsed k) (faults.Limit l) a b = absurd (none_is_some (sym a.0 ∙ b))
+refused_once file (faults.TwiceUsed k) (faults.TwiceUsed l) a b = ap (λ x. faults.TwiceUsed x) (key_once file.stations k l a.1 b.1)
+refused_once file (faults.TwiceUsed k) faults.Index a b = absurd (nothing_twice file.stations k a.1 b.1 b.2)
+refused_once file faults.Index (faults.Limit l) a b = absurd (none_is_some (sym a.0 ∙ b))
+refused_once file faults.Index (faults.TwiceUsed l) a b = absurd (nothing_twice file.stations l b.1 a.1 a.2)
+refused_once file faults.Index faults.Index a b = refl
+refused_once file faults.Toml other a b = absurd a
+refused_once file (faults.Field k) other a b = absurd a
+refused_once file faults.Memory other a b = absurd a
+refused_once file (faults.Limit k) faults.Toml a b = absurd b
+refused_once file (faults.Limit k) (faults.Field l) a b = absurd b
+refused_once file (faults.Limit k) faults.Memory a b = absurd b
+refused_once file (faults.TwiceUsed k) faults.Toml a b = absurd b
+refused_once file (faults.TwiceUsed k) (faults.Field l) a b = absurd b
+refused_once file (faults.TwiceUsed k) faults.Memory a b = absurd b
+refused_once file faults.Index faults.Toml a b = absurd b
+refused_once file faults.Index (faults.Field l) a b = absurd b
+refused_once file faults.Index faults.Memory a b = absurd b
 
-accepted_or_refused : (stations : List StationData) (fault : SubscriptionFault) → Accepts stations → Refuses stations fault → ⊥
-accepted_or_refused stations (faults.Limit k) a b = none_is_some (sym a.limits ∙ b)
-accepted_or_refused stations (faults.TwiceUsed k) a b = nothing_twice stations k b.1 a.once a.default_callers
-accepted_or_refused stations faults.Index a b = true_is_false (sym a.indexes ∙ b.3)
-accepted_or_refused stations faults.Toml a b = b
-accepted_or_refused stations (faults.Field k) a b = b
-accepted_or_refused stations faults.Memory a b = b
+accepted_or_refused : (file : FileData) (fault : SubscriptionFault) → Accepts file → Refuses file fault → ⊥
+accepted_or_refused file (faults.Limit k) a b = none_is_some (sym a.limits ∙ b)
+accepted_or_refused file (faults.TwiceUsed k) a b = nothing_twice file.stations k b.1 a.once a.default_callers
+accepted_or_refused file faults.Index a b = true_is_false (sym a.indexes ∙ b.3)
+accepted_or_refused file faults.Toml a b = b
+accepted_or_refused file (faults.Field k) a b = b
+accepted_or_refused file faults.Memory a b = b
 
 same_file : (text : List ℕ) (one other : FileData) → file_in text ≡ Ok one → file_in text ≡ Ok other → one ≡ other
 same_file text one other a b = let e : Ok one ≡ Ok other = sym a ∙ b in cc
@@ -91,10 +91,10 @@ one_answer text (Ok one) (Ok other) (file, read, accepts, is) (file', read', acc
     ap (λ t. Ok t) (is ∙ ap tables_of (same_file text file file' read read') ∙ sym is')
 one_answer text (Ok one) (Err fault) (file, read, accepts, is) (inl refused) = absurd (err_is_ok (sym refused ∙ read))
 one_answer text (Ok one) (Err fault) (file, read, accepts, is) (inr (file', read', refuses)) =
-    absurd (accepted_or_refused file'.stations fault (subst (λ (f : FileData). Accepts f.stations) (same_file text file file' read read') accepts) refuses)
+    absurd (accepted_or_refused file' fault (subst Accepts (same_file text file file' read read') accepts) refuses)
 one_answer text (Err fault) (Ok other) (inl refused) (file, read, accepts, is) = absurd (err_is_ok (sym refused ∙ read))
 one_answer text (Err fault) (Ok other) (inr (file', read', refuses)) (file, read, accepts, is) =
-    absurd (accepted_or_refused file'.stations fault (subst (λ (f : FileData). Accepts f.stations) (same_file text file file' read read') accepts) refuses)
+    absurd (accepted_or_refused file' fault (subst Accepts (same_file text file file' read read') accepts) refuses)
 one_answer text (Err one) (Err other) (inl a) (inl b) =
     let e = sym a ∙ b in
     let is : one ≡ other = cc in
@@ -102,4 +102,4 @@ one_answer text (Err one) (Err other) (inl a) (inl b) =
 one_answer text (Err one) (Err other) (inl a) (inr (file, read, refuses)) = absurd (err_is_ok (sym a ∙ read))
 one_answer text (Err one) (Err other) (inr (file, read, refuses)) (inl b) = absurd (err_is_ok (sym b ∙ read))
 one_answer text (Err one) (Err other) (inr (file, read, refuses)) (inr (file', read', refuses')) =
-    ap (λ f. Err f) (refused_once file.stations one other refuses (subst (λ (f : FileData). Refuses f.stations other) (sym (same_file text file file' read read')) refuses'))
+    ap (λ f. Err f) (refused_once file one other refuses (subst (λ (f : FileData). Refuses f other) (sym (same_file text file file' read read')) refuses'))

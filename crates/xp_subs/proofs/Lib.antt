@@ -9,6 +9,13 @@ pub mod UsesLemmas
 pub mod EntersLemmas
 pub mod GroupLemmas
 pub mod DefaultCallerLemmas
+pub mod There
+pub mod PortLemmas
+pub mod MovedLemmas
 pub mod BuiltLemmas
+pub mod MovingLemmas
+pub mod PlaceLemmas
+pub mod FillLemmas
+pub mod LaidLemmas
 pub mod ReadLemmas
 pub mod LawLemmas

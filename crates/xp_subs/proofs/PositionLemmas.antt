@@ -1,10 +1,11 @@
 -- The first place at which a test passes, and look-ups, in lists that grow at the end.
-use Rattle.std.proofs.Common.{◌≡◌, ℕ, ◌+◌, ◌-◌, ◌≤◌, List, [], ◌∷◌, ◌++◌, Bool, true, false, not, cond, Option, None, Some, inl, inr, length, length-append, eqb, map, get_or, refl, ap, ◌∙◌, arith}
+use Rattle.std.proofs.Common.{◌≡◌, ℕ, zero, suc, ◌+◌, ◌-◌, ◌<◌, ◌≤◌, List, [], ◌∷◌, ◌++◌, Bool, true, false, not, cond, Option, None, Some, All, inl, inr, length, length-append, eqb, map, get_or, refl, sym, ap, ◌∙◌, arith}
 use Rattle.std.specs.Prelude.{position, nat_lt}
 use Rattle.std.specs.List.{position_or_len, prefix_len}
 use Rattle.std.specs.Map.{lookup}
 use Rattle.std.proofs.lemmas.Bool.{cases_Bool, cases_lt, eq-eqb, ne_eqb, lt-ltb, le-ltb}
 use Rattle.std.proofs.lemmas.List.{length-map, get_or-append_right}
+use Rattle.std.proofs.lemmas.List.Elements.{All-head, All-tail}
 use Rattle.std.proofs.lemmas.List.Folds.{position_or_len_push}
 use Rattle.std.proofs.lemmas.List.Sums.{prefix_len-le-length}
 
@@ -74,3 +75,44 @@ get_or-last xs x d =
     let within_end : length xs ≤ length xs = omega arith in
     let first : length xs - length xs ≡ 0 = omega arith in
     get_or-append_right xs (x ∷ []) (length xs) (length xs) d refl within_end ∙ ap (λ i. get_or (x ∷ []) i d) first
+
+-- an element of a list that a function made, where the function also makes the default
+pub get_or-shown : {X Y : Type 0} (f : X → Y) (xs : List X) (i : ℕ) (d : X) → get_or (map f xs) i (f d) ≡ f (get_or xs i d)
+get_or-shown f [] i d = refl
+get_or-shown f (x ∷ xs) zero d = refl
+get_or-shown f (x ∷ xs) (suc i) d = get_or-shown f xs i d
+
+-- where a test passes, one place at least is found
+first_passes : {X : Type 0} (p : X → Bool) (xs : List X) (i : ℕ) (d : X) → i < length xs → p (get_or xs i d) ≡ true → position_or_len p xs < length xs
+first_passes p [] i d inside here = absurd (omega arith)
+first_passes p (x ∷ xs) i d inside here =
+    elim (cases_Bool (p x)) [
+      | inl passes ↦ rw passes (omega arith)
+      | inr apart ↦ rw apart (further i inside here apart (λ j. first_passes p xs j d))
+    ]
+  where
+    further : (i : ℕ) → i < length (x ∷ xs) → p (get_or (x ∷ xs) i d) ≡ true → p x ≡ false
+        → ((j : ℕ) → j < length xs → p (get_or xs j d) ≡ true → position_or_len p xs < length xs)
+        → 1 + position_or_len p xs < suc (length xs)
+    further zero inside here apart rest = let never : true ≡ false = sym here ∙ apart in cc
+    further (suc i) inside here apart rest = let more = rest i (omega arith) here in omega (arith, more)
+
+pub none_passes : {X : Type 0} (p : X → Bool) (xs : List X) (i : ℕ) (d : X) → i < length xs → position p xs ≡ None → p (get_or xs i d) ≡ false
+none_passes p xs i d inside none =
+    elim (cases_Bool (p (get_or xs i d))) [
+      | inl here ↦
+          let found : nat_lt (position_or_len p xs) (length xs) ≡ true = lt-ltb (position_or_len p xs) (length xs) (first_passes p xs i d inside here) in
+          let never : Some (position_or_len p xs) ≡ None = rw found at none in cc
+      | inr apart ↦ apart
+    ]
+
+-- two tests that agree on each element find the same place
+pub position-alike : {X : Type 0} (p q : X → Bool) (xs : List X) → All (λ x. p x ≡ q x) xs → position p xs ≡ position q xs
+unfolding within
+position-alike {X} p q xs alike = ap (λ n. within n (length xs)) (by xs alike)
+  where
+    by : (xs : List X) → All (λ x. p x ≡ q x) xs → position_or_len p xs ≡ position_or_len q xs
+    by [] alike = refl
+    by (x ∷ xs) alike =
+        ap (λ b. cond (not b) (1 + position_or_len p xs) 0) (All-head (λ x. p x ≡ q x) x xs alike)
+        ∙ ap (λ n. cond (not (q x)) (1 + n) 0) (by xs (All-tail (λ x. p x ≡ q x) x xs alike))

@@ -9,23 +9,23 @@ use Rattle.xp_file.specs.Entries.{StationData}
 use Rattle.xp_file.specs.SubscriptionFile.{FileData, file_in}
 use Rattle.xp_subs.specs.Built.{Refuses, SetsUp, tables_of}
 use Rattle.xp_subs.specs.DefaultCallers.{HasTwoDefaultCallers}
-use Rattle.xp_subs.specs.Passes.{over_limit, all_differ, has_own_indexes}
+use Rattle.xp_subs.specs.Passes.{file_over, all_differ, has_own_indexes}
 use Rattle.xp_subs.specs.steps.DefaultCallers.{are_rivals}
 use Rattle.xp_subs.specs.steps.Passes.{Used, nothing_used, with_stations}
 use Rattle.xp_subs.specs.Tables.{Tables}
 use Rattle.xp_subs.proofs.DefaultCallerLemmas.{callers_once, callers_twice}
 use Rattle.xp_subs.proofs.UsesLemmas.{all_once, first_again}
 
-module _ (text : List ℕ) (file : FileData) (read : file_in text ≡ Ok file) (first second third fourth : List StationData)
-    (one : first ≡ file.stations) (two : second ≡ file.stations) (three : third ≡ file.stations) (four : fourth ≡ file.stations)
-    (over : Option Key) (is : over ≡ over_limit first) (within : over ≡ None) where
-  limits : over_limit file.stations ≡ None
-  limits = ap over_limit (sym one) ∙ sym is ∙ within
+module _ (text : List ℕ) (file : FileData) (read : file_in text ≡ Ok file) (second third fourth : List StationData)
+    (two : second ≡ file.stations) (three : third ≡ file.stations) (four : fourth ≡ file.stations)
+    (over : Option Key) (is : over ≡ file_over file) (within : over ≡ None) where
+  limits : file_over file ≡ None
+  limits = sym is ∙ within
 
   pub refused_twice : (fault : SubscriptionFault) → with_stations 0 0 second nothing_used ≡ Err fault → SetsUp text (Err fault)
   refused_twice fault e =
       let (again, this, told) = first_again file.stations fault (ap (λ l. with_stations 0 0 l nothing_used) (sym two) ∙ e) in
-      inr (file, read, let P : SubscriptionFault → Type 0 = λ f. Refuses file.stations f in subst P (sym told) (limits, inl (again, this, refl)))
+      inr (file, read, let P : SubscriptionFault → Type 0 = λ f. Refuses file f in subst P (sym told) (limits, inl (again, this, refl)))
 
   module _ (used : Used) (once : with_stations 0 0 second nothing_used ≡ Ok used) where
     used_once : with_stations 0 0 file.stations nothing_used ≡ Ok used

@@ -7,7 +7,7 @@ use Rattle.std.proofs.lemmas.Bool.{eq-eqb, eqb-true}
 use Rattle.std.proofs.lemmas.List.{append-nil}
 use Rattle.std.proofs.lemmas.List.Folds.{list_any-append}
 use Rattle.xp_file.specs.declared.entry.Access.{Access}
-use Rattle.xp_file.specs.declared.entry.Access.TheVariants.{Port, Router}
+use Rattle.xp_file.specs.declared.entry.Access.TheVariants.{Port, Router, Spare}
 use Rattle.xp_file.specs.declared.entry.LineEntry.{LineEntry}
 use Rattle.xp_file.specs.declared.fault.SubscriptionFault.{SubscriptionFault}
 use Rattle.xp_file.specs.declared.fault.SubscriptionFault.TheVariants as faults
@@ -251,6 +251,7 @@ names_lead (first ∷ lines) done used line marks =
 access_leads : (access : Access) (done : List Use) (used : Used) → Marks used done → Leads done (port_use access) (with_access access used)
 access_leads (Port p) done used marks = port_leads done used p marks
 access_leads (Router router) done used marks = leads_none done used marks
+access_leads Spare done used marks = leads_none done used marks
 
 ports_lead : (lines : List LineEntry) (done : List Use) (used : Used) → Marks used done → Leads done (port_uses lines) (with_ports lines used)
 ports_lead [] done used marks = leads_none done used marks
@@ -376,6 +377,7 @@ ports_with station (line ∷ lines) =
     one : (access : Access) → ports_among (port_use access) ≡ port_list access
     one (Port p) = refl
     one (Router router) = refl
+    one Spare = refl
 
 ports_of-append : (lines more : List Line) → ports_of (lines ++ more) ≡ ports_of lines ++ ports_of more
 ports_of-append [] more = refl

@@ -5,6 +5,6 @@ use Rattle.std.specs.Prelude.{ℕ}
 abbrev pub most_stations : ℕ
 most_stations = 4_096
 
--- the most lines of an exchange, of all stations together
+-- the most lines of an exchange, of all stations together, with the places that are kept for further lines
 abbrev pub most_lines : ℕ
 most_lines = 4_096

@@ -1,5 +1,5 @@
 -- The tables that are built from a subscription file.
-use Rattle.std.specs.Prelude.{◌≡◌, ◌⊎◌, ℕ, true, false, zero, suc, ◌+◌, List, [], ◌∷◌, ◌++◌, Result, Ok, Err, None, Some, fold, length, map, if◌then◌else◌}
+use Rattle.std.specs.Prelude.{◌≡◌, ◌⊎◌, ℕ, true, false, zero, suc, ◌+◌, List, [], ◌∷◌, ◌++◌, Result, Ok, Err, None, Some, fold, length, map, replicate, if◌then◌else◌}
 use Rattle.std.specs.List.{list_any, list_all, position_or_len}
 use Rattle.xp_file.specs.declared.entry.GroupEntry.{GroupEntry}
 use Rattle.xp_file.specs.declared.entry.LineEntry.{LineEntry}
@@ -10,12 +10,13 @@ use Rattle.xp_file.specs.declared.key.Key.TheVariants as keys
 use Rattle.xp_file.specs.Entries.{StationData}
 use Rattle.xp_file.specs.SubscriptionFile.{FileData, file_in}
 use Rattle.xp_file.specs.Name.{same}
+use Rattle.xp_packets.specs.declared.modulus.Modulus.TheVariants.{Eight, Long}
 use Rattle.xp_subs.specs.declared.line.Line.{Line}
 use Rattle.xp_subs.specs.declared.station.Membership.{Membership}
 use Rattle.xp_subs.specs.declared.station.Station.{Station}
 use Rattle.xp_subs.specs.DefaultCallers.{HasTwoDefaultCallers}
-use Rattle.xp_subs.specs.Passes.{over_limit, has_own_indexes}
-use Rattle.xp_subs.specs.Tables.{Tables}
+use Rattle.xp_subs.specs.Passes.{file_over, has_own_indexes}
+use Rattle.xp_subs.specs.Tables.{Tables, spare_place}
 use Rattle.xp_subs.specs.UsedValues.{Use, key_of, uses_of, Once, IsFirstRepeated}
 
 -- `count` numbers, from `first` on
@@ -35,6 +36,10 @@ lines_of station lines = map (line_from station) lines
 abbrev pub lines_from : ℕ → List StationData → List Line
 lines_from number [] = []
 lines_from number (station ∷ stations) = lines_of number station.lines ++ lines_from (number + 1) stations
+
+-- the places that the file reserves for further lines: those of modulo 8, then those of modulo 128
+abbrev pub spare_places : FileData → List Line
+spare_places file = replicate file.spare_lines (spare_place Eight) ++ replicate file.spare_lines_128 (spare_place Long)
 
 -- a new name is added at the end
 abbrev pub mention : List (List ℕ) → List ℕ → List (List ℕ)
@@ -89,7 +94,7 @@ stations_from known line (station ∷ stations) =
 unfoldable pub tables_of : FileData → Tables
 tables_of file = record {
   stations = stations_from (mentions [] file.stations) 0 file.stations;
-  lines = lines_from 0 file.stations;
+  lines = lines_from 0 file.stations ++ spare_places file;
   groups = mentions [] file.stations;
   segment_limit = file.segment_limit;
   journal = file.journal;
@@ -105,21 +110,22 @@ IsTwiceUsed stations key =
     ((again : Use) × IsFirstRepeated (uses_of stations) again × (key ≡ key_of again))
     ⊎ (Once (uses_of stations) × HasTwoDefaultCallers stations × (key ≡ keys.DefaultCaller))
 
--- The first fault of stations whose keys have been read: a limit, a value or a default caller that is there twice, or an index.
-abbrev pub Refuses : List StationData → SubscriptionFault → Type 0
-Refuses stations (faults.Limit key) = over_limit stations ≡ Some key
-Refuses stations (faults.TwiceUsed key) = (over_limit stations ≡ None) × IsTwiceUsed stations key
-Refuses stations faults.Index =
-    (over_limit stations ≡ None) × Once (uses_of stations) × (HasTwoDefaultCallers stations → ⊥) × (list_all has_own_indexes stations ≡ false)
-Refuses stations _ = ⊥
+-- The first fault of a file whose keys have been read: a limit, a value or a default caller that is there twice, or an index.
+abbrev pub Refuses : FileData → SubscriptionFault → Type 0
+Refuses file (faults.Limit key) = file_over file ≡ Some key
+Refuses file (faults.TwiceUsed key) = (file_over file ≡ None) × IsTwiceUsed file.stations key
+Refuses file faults.Index =
+    (file_over file ≡ None) × Once (uses_of file.stations) × (HasTwoDefaultCallers file.stations → ⊥)
+    × (list_all has_own_indexes file.stations ≡ false)
+Refuses file _ = ⊥
 
-pub record Accepts (stations : List StationData) : Type 0 where
-  pub limits : over_limit stations ≡ None
-  pub once : Once (uses_of stations)
-  pub default_callers : HasTwoDefaultCallers stations → ⊥
-  pub indexes : list_all has_own_indexes stations ≡ true
+pub record Accepts (file : FileData) : Type 0 where
+  pub limits : file_over file ≡ None
+  pub once : Once (uses_of file.stations)
+  pub default_callers : HasTwoDefaultCallers file.stations → ⊥
+  pub indexes : list_all has_own_indexes file.stations ≡ true
 
--- The tables of a text, or its first fault: of its values, or of the stations.
+-- The tables of a text, or its first fault: of its values, or of the file that they make.
 abbrev pub SetsUp : List ℕ → Result Tables SubscriptionFault → Type 0
-SetsUp text (Ok tables) = (file : FileData) × (file_in text ≡ Ok file) × Accepts file.stations × (tables ≡ tables_of file)
-SetsUp text (Err fault) = (file_in text ≡ Err fault) ⊎ ((file : FileData) × (file_in text ≡ Ok file) × Refuses file.stations fault)
+SetsUp text (Ok tables) = (file : FileData) × (file_in text ≡ Ok file) × Accepts file × (tables ≡ tables_of file)
+SetsUp text (Err fault) = (file_in text ≡ Err fault) ⊎ ((file : FileData) × (file_in text ≡ Ok file) × Refuses file fault)

@@ -2,6 +2,7 @@ pub mod Bounds
 pub mod Built
 pub mod Consistency
 pub mod DefaultCallers
+pub mod Laid
 pub mod Laws
 pub mod Passes
 pub mod Sound

@@ -1,12 +1,13 @@
 -- The checks of stations whose keys have been read: their limits, the values that are used twice, and the indexes of
 -- groups.
-use Rattle.std.specs.Prelude.{ℕ, List, [], ◌∷◌, Bool, true, not, ◌&&◌, Option, None, Some, length, sum_by, nat_eq, nat_lt, if◌then◌else◌}
+use Rattle.std.specs.Prelude.{ℕ, ◌+◌, List, [], ◌∷◌, Bool, true, not, ◌&&◌, Option, None, Some, length, sum_by, nat_eq, nat_lt, if◌then◌else◌}
 use Rattle.std.specs.List.{list_any}
 use Rattle.xp_file.specs.declared.entry.GroupEntry.{GroupEntry}
 use Rattle.xp_file.specs.declared.key.Key.{Key}
 use Rattle.xp_file.specs.declared.key.Key.TheVariants as keys
 use Rattle.xp_file.specs.Entries.{StationData}
 use Rattle.xp_file.specs.Name.{same}
+use Rattle.xp_file.specs.SubscriptionFile.{FileData}
 use Rattle.xp_subs.specs.Bounds.{most_lines, most_stations}
 
 -- the limits of a station: 32 lines and 64 groups
@@ -31,6 +32,15 @@ abbrev pub over_limit : List StationData → Option Key
 over_limit stations =
     if nat_lt most_stations (length stations) then Some keys.Station
     else (if nat_lt most_lines (line_total stations) then Some keys.Line else first_over stations)
+
+-- the limits of a file: of its stations, and of its lines with the places that it reserves for further ones
+abbrev pub spare_over : FileData → Option Key
+spare_over file =
+    if nat_lt most_lines (line_total file.stations + file.spare_lines) then Some keys.SpareLines
+    else (if nat_lt most_lines (line_total file.stations + file.spare_lines + file.spare_lines_128) then Some keys.SpareLines128 else None)
+
+abbrev pub file_over : FileData → Option Key
+file_over file = first_key (over_limit file.stations) (spare_over file)
 
 -- no two elements are equal
 abbrev pub all_differ : {A : Type 0} → (A → A → Bool) → List A → Bool

@@ -1,5 +1,5 @@
 -- What holds of the tables of all subscriptions.
-use Rattle.std.specs.Prelude.{◌≡◌, ℕ, ◌<◌, ◌≤◌, List, Option, None, Some, Contains, All, IsTrue, map}
+use Rattle.std.specs.Prelude.{◌≡◌, ℕ, ◌<◌, ◌≤◌, List, true, Option, None, Some, Contains, All, IsTrue, map}
 use Rattle.xp_file.specs.Entries.{AreLimits, IsAccess}
 use Rattle.xp_subs.specs.declared.station.Membership.{Membership}
 use Rattle.xp_subs.specs.declared.station.Station.{Station}
@@ -8,7 +8,7 @@ use Rattle.xp_file.specs.Name.{is_line_name}
 use Rattle.xp_file.specs.Routers.{IsPort}
 use Rattle.xp_file.specs.Sources.{AreSources}
 use Rattle.xp_subs.specs.Bounds.{most_lines, most_stations}
-use Rattle.xp_subs.specs.Tables.{Tables, station_count, line_count, station_at, line_at, station_of, target_of, line_named_of, group_count, ports_of}
+use Rattle.xp_subs.specs.Tables.{Tables, station_count, line_count, station_at, line_at, is_spare, spare_place, IsThere, station_of, modulus_of, target_of, line_named_of, group_count, ports_of}
 use Rattle.xp_subs.specs.UsedValues.{Once}
 
 -- the line is in the station's list of lines
@@ -49,13 +49,15 @@ pub record HasOwnGroups (tables : Tables) (station : Station) : Type 0 where
   pub preferential : (index : ℕ) → station.preferential ≡ Some index → Contains (indexes_of station) index
 
 pub record IsSound (tables : Tables) : Type 0 where
-  -- there is at least one line, and there are no more lines and stations than an exchange may have
+  -- there is at least one place for a line, and there are no more places and stations than an exchange may have
   pub some_line : 0 < line_count tables
   pub few_lines : line_count tables ≤ most_lines
   pub few_stations : station_count tables ≤ most_stations
+  -- a place without a line has nothing but its modulus
+  pub spare : (line : ℕ) → is_spare (line_at tables line) ≡ true → line_at tables line ≡ spare_place (modulus_of tables line)
   -- a line is in the list of its own station, and in no other station's list
-  pub placed : (line : ℕ) → line < line_count tables → station_of tables line < station_count tables
-  pub listed : (line : ℕ) → line < line_count tables → Lists tables (station_of tables line) line
+  pub placed : (line : ℕ) → IsThere tables line → station_of tables line < station_count tables
+  pub listed : (line : ℕ) → IsThere tables line → Lists tables (station_of tables line) line
   pub own : (station line : ℕ) → station < station_count tables → Lists tables station line
       → (line < line_count tables) × (station_of tables line ≡ station)
   -- no address and no name is used twice: each is found, and belongs to one station or line
@@ -64,7 +66,7 @@ pub record IsSound (tables : Tables) : Type 0 where
   pub line_found : (line : ℕ) (address : List ℕ) → line < line_count tables
       → (line_at tables line).address ≡ Some address
       → target_of tables address ≡ Some (record { station = station_of tables line; line = Some line })
-  pub named : (line : ℕ) → line < line_count tables
+  pub named : (line : ℕ) → IsThere tables line
       → line_named_of tables (line_at tables line).name ≡ Some line
   -- nothing else is found by an address or a name
   pub target : (address : List ℕ) (target : Target) → target_of tables address ≡ Some target → IsTarget tables target
@@ -76,13 +78,13 @@ pub record IsSound (tables : Tables) : Type 0 where
   pub own_groups : (station : ℕ) → station < station_count tables → HasOwnGroups tables (station_at tables station)
   pub names_of_groups : Once tables.groups
   -- each line has a valid port or a valid router; no two lines have the same port
-  pub accesses : (line : ℕ) → line < line_count tables → IsAccess (line_at tables line).access
+  pub accesses : (line : ℕ) → IsThere tables line → IsAccess (line_at tables line).access
   pub ports_once : Once (ports_of tables.lines)
   -- the port for routers is valid
   pub xot_port : IsPort tables.xot_port
   -- the limits of segments and of history entries are in their ranges
   pub limits : AreLimits tables.segment_limit tables.journal
   -- each line has a valid name
-  pub spelled : (line : ℕ) → line < line_count tables → IsTrue (is_line_name (line_at tables line).name)
+  pub spelled : (line : ℕ) → IsThere tables line → IsTrue (is_line_name (line_at tables line).name)
   -- each line has at most 8 sources, each of the form of an address
   pub sources : (line : ℕ) → line < line_count tables → AreSources (line_at tables line).from

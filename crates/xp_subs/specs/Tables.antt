@@ -1,11 +1,12 @@
 -- The subscription tables, and the functions that read them.
 pub use Rattle.xp_file.specs.Name.{same}
-use Rattle.std.specs.Prelude.{ℕ, List, [], ◌∷◌, ◌++◌, Bool, true, false, Option, None, Some, unwrap_or, length, position, slice_index_or}
+use Rattle.std.specs.Prelude.{ℕ, List, [], ◌∷◌, ◌≡◌, ◌<◌, ◌++◌, Bool, true, false, not, ◌&&◌, Option, None, Some, unwrap_or, length, position, slice_index_or}
 use Rattle.std.specs.List.{list_any}
 use Rattle.xp_file.specs.declared.entry.Access.{Access}
-use Rattle.xp_file.specs.declared.entry.Access.TheVariants.{Port, Router}
+use Rattle.xp_file.specs.declared.entry.Access.TheVariants.{Port, Router, Spare}
 use Rattle.xp_packets.specs.declared.modulus.Modulus.{Modulus}
 use Rattle.xp_packets.specs.declared.modulus.Modulus.TheVariants.{Eight}
+use Rattle.xp_subs.specs.Bounds.{most_stations}
 use Rattle.xp_subs.specs.declared.line.Line.{Line}
 use Rattle.xp_subs.specs.declared.station.Station.{Station}
 use Rattle.xp_subs.specs.declared.target.Target.{Target}
@@ -28,14 +29,14 @@ station_count tables = length tables.stations
 abbrev pub line_count : Tables → ℕ
 line_count tables = length tables.lines
 
--- the result for the number of a station or a line that does not exist
+-- The result for the number of a station or a line that does not exist. No call comes from such a station or goes to it.
 abbrev pub no_station : Station
 no_station = record {
   address = [];
   lines = record { items = [] };
   facilities = record {
-    outgoing_barred = false;
-    incoming_barred = false;
+    outgoing_barred = true;
+    incoming_barred = true;
     reverse_charging = false;
     fast_select = false;
     outgoing_access = false;
@@ -50,11 +51,32 @@ no_station = record {
 abbrev pub no_line : Line
 no_line = record { name = []; access = Port 0; address = None; modulus = Eight; station = 0; from = [] }
 
+-- in place of a station's number, for a place that has no line: no station has this number
+abbrev pub no_station_number : ℕ
+no_station_number = most_stations
+
+-- a place that has no line: it is kept for one of this modulus that may come
+abbrev pub spare_place : Modulus → Line
+spare_place modulus = record { name = []; access = Spare; address = None; modulus = modulus; station = no_station_number; from = [] }
+
+abbrev pub is_no_access : Access → Bool
+is_no_access (Port port) = false
+is_no_access (Router router) = false
+is_no_access Spare = true
+
+-- the place has no line
+abbrev pub is_spare : Line → Bool
+is_spare line = is_no_access line.access
+
 abbrev pub station_at : Tables → ℕ → Station
 station_at tables number = slice_index_or tables.stations number no_station
 
 abbrev pub line_at : Tables → ℕ → Line
 line_at tables number = slice_index_or tables.lines number no_line
+
+-- there is a line with this number
+abbrev pub IsThere : Tables → ℕ → Type 0
+IsThere tables number = (number < line_count tables) × (is_spare (line_at tables number) ≡ false)
 
 -- the number of a line's station
 abbrev pub station_of : Tables → ℕ → ℕ
@@ -73,6 +95,7 @@ modulus_of tables number = (line_at tables number).modulus
 abbrev pub port_list : Access → List ℕ
 port_list (Port port) = port ∷ []
 port_list (Router router) = []
+port_list Spare = []
 
 -- the ports of all lines that have one, in the order of the lines
 abbrev pub ports_of : List Line → List ℕ
@@ -83,6 +106,7 @@ ports_of (line ∷ lines) = port_list line.access ++ ports_of lines
 abbrev pub is_router : Access → Bool
 is_router (Port port) = false
 is_router (Router router) = true
+is_router Spare = false
 
 abbrev pub has_router : Line → Bool
 has_router line = is_router line.access
@@ -97,9 +121,13 @@ holds address (Some held) = same address held
 abbrev pub has_address : List ℕ → Line → Bool
 has_address address line = holds address line.address
 
+-- the place has a line with this name
+abbrev pub has_name : List ℕ → Line → Bool
+has_name name line = not (is_spare line) && same name line.name
+
 -- the first line with this name
 abbrev pub line_named_of : Tables → List ℕ → Option ℕ
-line_named_of tables name = position (λ line. same name line.name) tables.lines
+line_named_of tables name = position (has_name name) tables.lines
 
 -- a target that is a whole station, and one that is a single line
 abbrev pub whole_station : Option ℕ → Option Target

@@ -2,7 +2,7 @@
 -- and ports.
 use Rattle.std.specs.Prelude.{◌≡◌, ℕ, List, [], ◌∷◌, ◌++◌, Option, None, Some, Contains, map}
 use Rattle.xp_file.specs.declared.entry.Access.{Access}
-use Rattle.xp_file.specs.declared.entry.Access.TheVariants.{Port, Router}
+use Rattle.xp_file.specs.declared.entry.Access.TheVariants.{Port, Router, Spare}
 use Rattle.xp_file.specs.declared.entry.LineEntry.{LineEntry}
 use Rattle.xp_file.specs.declared.key.Key.{Key}
 use Rattle.xp_file.specs.declared.key.Key.TheVariants as keys
@@ -33,6 +33,7 @@ own_uses (line ∷ lines) = own_use line.address ++ own_uses lines
 abbrev pub port_use : Access → List Use
 port_use (Port p) = port p ∷ []
 port_use (Router router) = []
+port_use Spare = []
 
 abbrev pub port_uses : List LineEntry → List Use
 port_uses [] = []

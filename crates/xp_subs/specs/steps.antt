@@ -2,5 +2,7 @@
 pub mod Built
 pub mod Consistency
 pub mod DefaultCallers
+pub mod Moved
 pub mod Passes
+pub mod Places
 pub mod WithinLimits

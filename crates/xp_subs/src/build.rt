@@ -1,9 +1,10 @@
 //! Builds the tables of a subscription file.
-ghost use Rattle.std.specs.Prelude.{◌≡◌, ◌≤◌, ◌<◌, ◌+◌, ◌++◌, [], All, IfOk, OnOk, length, fold};
+ghost use Rattle.std.specs.Prelude.{◌≡◌, ◌≤◌, ◌<◌, ◌+◌, ◌++◌, [], All, IfOk, OnOk, length, fold, replicate};
 ghost use Rattle.xp_subs.specs.Bounds.{most_lines};
-ghost use Rattle.xp_subs.specs.Built.{numbers, line_from, lines_of, lines_from, mention, mentions, group_names, group_number, membership_from, memberships_of, station_from, stations_from};
+ghost use Rattle.xp_subs.specs.Built.{numbers, line_from, lines_of, lines_from, mention, mentions, group_names, group_number, membership_from, memberships_of, station_from, stations_from, spare_places};
 ghost use Rattle.xp_subs.specs.steps.Built.{IsKnown, AreKnown};
 ghost use Rattle.xp_subs.specs.steps.WithinLimits.{AreWithinLimits, IsStationWithinLimits, most_groups};
+ghost use Rattle.xp_subs.specs.Tables.{spare_place};
 
 use crate::limits::{MOST_GROUPS_OF_STATION, MOST_LINES_OF_STATION};
 use crate::line::Line;
@@ -12,7 +13,8 @@ use crate::{GroupNo, LineNo, StationNo};
 use arrayvec::ArrayVec;
 use indexmap::IndexSet;
 use std::alloc::{AllocError, Global};
-use xp_file::{GroupEntry, LineEntry, Name, StationEntry};
+use xp_file::{GroupEntry, LineEntry, Name, StationEntry, SubscriptionFile};
+use xp_packets::Modulus;
 
 /// The names of the groups, in the order in which the file first mentions them.
 pub(crate) fn group_names(
@@ -136,8 +138,27 @@ fn group_number(known: &IndexSet<Name>, name: &Name) -> GroupNo
     known.get_index_of(name).unwrap() as GroupNo
 }
 
-/// The lines of all stations, in the order of the file.
-pub(crate) fn lines(alloc: Global, entries: &[StationEntry]) -> Result<Vec<Line>, AllocError>
+/// The lines of all stations, in the order of the file, and behind them the places that it reserves for further lines.
+pub(crate) fn places(alloc: Global, file: &SubscriptionFile) -> Result<Vec<Line>, AllocError>
+    requires { AreWithinLimits file.now.stations }
+    ensures { IfOk result (λ lines. lines.items ≡ lines_from 0 file.now.stations ++ spare_places file.now) }
+{
+    let mut places = lines(alloc, &file.stations)?;
+    push_spare_places(&mut places, Modulus::Eight, file.spare_lines)?;
+    push_spare_places(&mut places, Modulus::Long, file.spare_lines_128)?;
+    Ok(places)
+}
+
+fn push_spare_places(places: &mut Vec<Line>, modulus: Modulus, count: u16) -> Result<(), AllocError>
+    ensures { OnOk result (places.new.items ≡ places.old.items ++ replicate count (spare_place modulus)) }
+{
+    for _place in 0..count {
+        places.push(Line::spare_place(modulus))?;
+    }
+    Ok(())
+}
+
+fn lines(alloc: Global, entries: &[StationEntry]) -> Result<Vec<Line>, AllocError>
     requires { AreWithinLimits entries.now }
     ensures { IfOk result (λ lines. lines.items ≡ lines_from 0 entries.now) }
 {

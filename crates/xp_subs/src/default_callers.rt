@@ -44,7 +44,7 @@ fn has_line_beside(lines: &[LineEntry], access: &Access) -> bool
     ensures { result ≡ has_line_beside lines.now access.now }
 {
     match access {
-        Access::Port(_) => false,
+        Access::Port(_) | Access::Spare => false,
         Access::Router(router) => has_line_behind(lines, router.address()),
     }
 }

@@ -4,15 +4,19 @@
 mod build;
 mod default_callers;
 mod indexes;
+mod laid;
 mod laws;
 mod limits;
 mod line;
+mod moving;
+mod places;
 mod read;
 mod station;
 mod subs;
 mod target;
 mod used_values;
 
+pub use laid::LayFault;
 pub use laws::one_answer;
 pub use limits::{MOST_GROUPS_OF_STATION, MOST_LINES, MOST_LINES_OF_STATION, MOST_STATIONS};
 pub use line::Line;
@@ -23,7 +27,8 @@ pub use xp_file::{
     Access, Facilities, Key, Name, Redirection, RouterAddress, Sources, SubscriptionFault,
 };
 
-/// The number of a line: from 0, in the order of the file.
+/// The number of a line, which is the number of its place: from 0, in the order of the file with which the exchange started.
+/// The places that are kept for further lines come behind them.
 pub type LineNo = u16;
 
 /// The number of a station: from 0, in the order of the file.

@@ -1,11 +1,12 @@
 ghost use Rattle.std.specs.Prelude.{◌≡◌};
-ghost use Rattle.xp_subs.specs.Tables.{has_router};
+ghost use Rattle.xp_subs.specs.Tables.{has_router, is_spare, spare_place};
 
 use crate::StationNo;
+use crate::limits::NO_STATION;
 use xp_file::{Access, Name, Sources};
 use xp_packets::{Digits, Modulus};
 
-/// One access line of a station.
+/// One access line of a station, or a place that is kept for one.
 #[derive(Drop, PartialEq)]
 pub struct Line {
     pub name: Name,
@@ -21,6 +22,41 @@ pub struct Line {
 }
 
 impl Line {
+    /// A place for a line of this modulus that may come.
+    pub(crate) fn spare_place(modulus: Modulus) -> Line
+        ensures { result ≡ spare_place modulus }
+    {
+        Line {
+            name: Name::none(),
+            access: Access::Spare,
+            address: None,
+            modulus,
+            station: NO_STATION,
+            from: Sources::new(),
+        }
+    }
+
+    /// Whether the place has no line.
+    pub(crate) fn is_spare(&self) -> bool
+        ensures { result ≡ is_spare self.now }
+    {
+        matches!(self.access, Access::Spare)
+    }
+
+    /// An equal copy.
+    pub(crate) fn copy(&self) -> Line
+        ensures { result ≡ self.now }
+    {
+        Line {
+            name: self.name.copy(),
+            access: self.access.copy(),
+            address: self.address.as_ref().map(|address| address.copy()),
+            modulus: self.modulus,
+            station: self.station,
+            from: self.from.copy(),
+        }
+    }
+
     /// Whether the line is behind an XOT router.
     pub(crate) fn has_router(&self) -> bool
         ensures { result ≡ has_router self.now }

@@ -1,28 +1,29 @@
 //! Reads the subscriptions from the text of a file.
-ghost use Rattle.std.specs.Prelude.{◌≡◌, [], ◌≢◌, ◌<◌, length, true, Ok, Err, IfOk, IfErr};
+ghost use Rattle.std.specs.Prelude.{◌≡◌, [], ◌≢◌, ◌<◌, ◌≤◌, ◌+◌, ◌++◌, length, true, Ok, Err, IfOk, IfErr};
 ghost use Rattle.xp_file.specs.declared.fault.SubscriptionFault.TheVariants.{Memory as OutOfMemory};
 ghost use Rattle.std.specs.List.{list_all};
 ghost use Rattle.std.specs.Set.{distinct_count};
 ghost use Rattle.xp_file.specs.Entries.{AreLimits};
 ghost use Rattle.xp_file.specs.Routers.{IsPort};
 ghost use Rattle.xp_file.specs.SubscriptionFile.{file_in};
-ghost use Rattle.xp_subs.specs.Built.{SetsUp, tables_of, named_groups, mentions, stations_from, lines_from};
+ghost use Rattle.xp_subs.specs.Bounds.{most_lines};
+ghost use Rattle.xp_subs.specs.Built.{SetsUp, tables_of, named_groups, mentions, stations_from, lines_from, spare_places};
 ghost use Rattle.xp_subs.specs.steps.WithinLimits.{AreWithinLimits};
-ghost use Rattle.xp_subs.specs.Passes.{has_own_indexes};
+ghost use Rattle.xp_subs.specs.Passes.{has_own_indexes, line_total};
 ghost use Rattle.xp_subs.specs.steps.Passes.{nothing_used, with_stations};
 ghost use Rattle.xp_subs.specs.Tables.{group_count, same};
 
 use crate::build;
 use crate::default_callers::default_callers_differ;
 use crate::indexes::all_have_own_indexes;
-use crate::limits::over_limit;
+use crate::limits::file_over;
 use crate::line::Line;
 use crate::station::Station;
 use crate::subs::Subs;
 use crate::used_values::UsedValues;
 use indexmap::IndexSet;
 use std::alloc::{AllocError, Global};
-use xp_file::{Key, Name, StationEntry, SubscriptionFault, SubscriptionFile};
+use xp_file::{Key, Name, SubscriptionFault, SubscriptionFile};
 
 impl Subs {
     /// Reads the text of a subscription file.
@@ -33,7 +34,7 @@ impl Subs {
     ///
     /// - `Toml` for the text;
     /// - `Field` for the values of its keys;
-    /// - `Limit` for the numbers of stations, lines and groups;
+    /// - `Limit` for the numbers of stations, lines and groups, and of the places reserved for further lines;
     /// - `TwiceUsed` for addresses, names and ports;
     /// - `TwiceUsed(Key::DefaultCaller)` for the default callers of routers;
     /// - `Index` for the groups of a station.
@@ -47,7 +48,7 @@ impl Subs {
         ensures groups { IfOk result (λ subs. IfOk (file_in text.now) (λ file. group_count subs ≡ distinct_count same (named_groups file.stations))) }
     {
         let file = SubscriptionFile::read(alloc, text)?;
-        if let Some(key) = over_limit(&file.stations) {
+        if let Some(key) = file_over(&file) {
             return Err(SubscriptionFault::Limit(key));
         }
         let uses = UsedValues::of(alloc, &file.stations)?;
@@ -63,6 +64,7 @@ impl Subs {
 
 fn from_file(alloc: Global, file: SubscriptionFile, uses: UsedValues) -> Result<Subs, AllocError>
     requires fit { AreWithinLimits file.stations }
+    requires places { line_total file.stations + file.spare_lines + file.spare_lines_128 ≤ most_lines }
     requires some { 0 < length file.stations }
     requires limits { AreLimits file.segment_limit file.journal }
     requires port { IsPort file.xot_port }
@@ -70,7 +72,7 @@ fn from_file(alloc: Global, file: SubscriptionFile, uses: UsedValues) -> Result<
     requires once { with_stations 0 0 file.stations nothing_used ≡ Ok uses }
     ensures { IfOk result (λ subs. subs ≡ tables_of file) }
 {
-    match parts_of(alloc, &file.stations) {
+    match parts_of(alloc, &file) {
         Ok((known, stations, lines)) => Ok(put_together(file, uses, known, stations, lines)),
         Err(refused) => Err(refused),
     }
@@ -78,16 +80,16 @@ fn from_file(alloc: Global, file: SubscriptionFile, uses: UsedValues) -> Result<
 
 fn parts_of(
     alloc: Global,
-    entries: &[StationEntry],
+    file: &SubscriptionFile,
 ) -> Result<(IndexSet<Name>, Vec<Station>, Vec<Line>), AllocError>
-    requires fit { AreWithinLimits entries.now }
-    ensures names { IfOk result (λ parts. parts.0.keys ≡ mentions [] entries.now) }
-    ensures stations { IfOk result (λ parts. parts.1.items ≡ stations_from parts.0.keys 0 entries.now) }
-    ensures lines { IfOk result (λ parts. parts.2.items ≡ lines_from 0 entries.now) }
+    requires fit { AreWithinLimits file.now.stations }
+    ensures names { IfOk result (λ parts. parts.0.keys ≡ mentions [] file.now.stations) }
+    ensures stations { IfOk result (λ parts. parts.1.items ≡ stations_from parts.0.keys 0 file.now.stations) }
+    ensures lines { IfOk result (λ parts. parts.2.items ≡ lines_from 0 file.now.stations ++ spare_places file.now) }
 {
-    let known = build::group_names(alloc, entries)?;
-    let stations = build::stations(alloc, entries, &known)?;
-    let lines = build::lines(alloc, entries)?;
+    let known = build::group_names(alloc, &file.stations)?;
+    let stations = build::stations(alloc, &file.stations, &known)?;
+    let lines = build::places(alloc, file)?;
     Ok((known, stations, lines))
 }
 
@@ -104,9 +106,10 @@ fn put_together(
     requires port { IsPort file.xot_port }
     requires own { list_all has_own_indexes file.stations ≡ true }
     requires once { with_stations 0 0 file.stations nothing_used ≡ Ok uses }
+    requires places { line_total file.stations + file.spare_lines + file.spare_lines_128 ≤ most_lines }
     requires names { known.keys ≡ mentions [] file.stations }
     requires stations { stations.items ≡ stations_from known.keys 0 file.stations }
-    requires lines { lines.items ≡ lines_from 0 file.stations }
+    requires lines { lines.items ≡ lines_from 0 file.stations ++ spare_places file }
     ensures { result ≡ tables_of file }
 {
     Subs {
@@ -120,5 +123,6 @@ fn put_together(
         name: file.name,
         targets: uses.targets,
         names: uses.names,
+        nobody: Station::nobody(),
     }
 }

@@ -1,3 +1,6 @@
+ghost use Rattle.std.specs.Prelude.{◌≡◌};
+ghost use Rattle.xp_subs.specs.Tables.{no_station};
+
 use crate::limits::{MOST_GROUPS_OF_STATION, MOST_LINES_OF_STATION};
 use crate::{GroupNo, LineNo};
 use arrayvec::ArrayVec;
@@ -34,4 +37,28 @@ pub struct Station {
     pub memberships: ArrayVec<Membership, MOST_GROUPS_OF_STATION>,
     /// Where its calls are redirected, if they are (X.25 clause 6.25.1).
     pub redirect: Option<Redirection>,
+}
+
+impl Station {
+    /// In place of a station that does not exist: it has no address and no lines, and calls neither leave nor reach it.
+    pub(crate) fn nobody() -> Station
+        ensures { result ≡ no_station }
+    {
+        Station {
+            address: Digits::new(),
+            lines: ArrayVec::new(),
+            facilities: Facilities {
+                outgoing_barred: true,
+                incoming_barred: true,
+                reverse_charging: false,
+                fast_select: false,
+                outgoing_access: false,
+                incoming_access: false,
+            },
+            preferential: None,
+            default_caller: false,
+            memberships: ArrayVec::new(),
+            redirect: None,
+        }
+    }
 }

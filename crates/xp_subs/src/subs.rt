@@ -1,6 +1,6 @@
-ghost use Rattle.std.specs.Prelude.{◌≡◌, ◌<◌, IfSome, option_map, slice_get};
+ghost use Rattle.std.specs.Prelude.{◌≡◌, ◌<◌, false, IfSome, option_map, slice_get};
 ghost use Rattle.xp_subs.specs.Sound.{IsSound, IsTarget};
-ghost use Rattle.xp_subs.specs.Tables.{line_count, station_count, group_count, station_at, line_at, station_of, address_of, modulus_of, target_of, line_named_of, has_routers};
+ghost use Rattle.xp_subs.specs.Tables.{line_count, station_count, group_count, station_at, line_at, is_spare, IsThere, station_of, address_of, modulus_of, target_of, line_named_of, has_routers};
 
 use crate::line::Line;
 use crate::station::Station;
@@ -23,6 +23,8 @@ pub struct Subs {
     pub(crate) name: Option<Name>,
     pub(crate) targets: IndexMap<Digits, Target>,
     pub(crate) names: IndexMap<Name, LineNo>,
+    /// The result for the number of a station that does not exist.
+    pub(crate) nobody: Station,
 }
 
 impl Drop for Subs {
@@ -38,6 +40,7 @@ impl Drop for Subs {
             name: _,
             targets: _,
             names: _,
+            nobody: _,
         } = self;
     }
 }
@@ -67,32 +70,43 @@ impl Subs {
     pub fn line_named(&self, name: &str) -> Option<LineNo>
         ensures found { result ≡ line_named_of self.now name.now }
         ensures line { IfSome result (λ line. line < line_count self.now) }
+        ensures there { IfSome result (λ line. is_spare (line_at self.now line) ≡ false) }
     {
         self.names.get(&Name::of_line(name)?).copied()
     }
 
-    /// The station with this number.
+    /// The station with this number. For a number that no station has, as that of a place without a line, one that has no
+    /// address and no lines and that calls neither leave nor reach.
     pub fn station(&self, station: StationNo) -> &Station
-        requires { station < station_count self.now }
         ensures { result.now ≡ station_at self.now station }
     {
-        &self.stations[usize::from(station)]
+        self.stations
+            .get(usize::from(station))
+            .unwrap_or(&self.nobody)
     }
 
-    /// The line with this number.
+    /// The line with this number, or the place that is kept for one.
     pub fn line(&self, line: LineNo) -> &Line
         requires { line < line_count self.now }
         ensures line { result.now ≡ line_at self.now line }
-        ensures placed { station_of self.now line < station_count self.now }
+        ensures placed { IsThere self.now line → station_of self.now line < station_count self.now }
     {
         &self.lines[usize::from(line)]
     }
 
-    /// The number of a line's station.
+    /// Whether there is no line at this place.
+    pub fn is_spare(&self, line: LineNo) -> bool
+        requires { line < line_count self.now }
+        ensures { result ≡ is_spare (line_at self.now line) }
+    {
+        self.line(line).is_spare()
+    }
+
+    /// The number of a line's station. For a place without a line, a number that no station has.
     pub fn station_of(&self, line: LineNo) -> StationNo
         requires { line < line_count self.now }
         ensures station { result ≡ station_of self.now line }
-        ensures range { result < station_count self.now }
+        ensures range { IsThere self.now line → result < station_count self.now }
     {
         self.line(line).station
     }

@@ -81,7 +81,7 @@ impl UsedValues {
     {
         match access {
             Access::Port(port) => self.enter_port(*port),
-            Access::Router(_) => Ok(()),
+            Access::Router(_) | Access::Spare => Ok(()),
         }
     }
 

@@ -8,6 +8,7 @@ mod matrix;
 mod open_ports;
 mod reach;
 mod redirections;
+mod spare_lines;
 mod station_warnings;
 mod stations;
 mod summary_text;
@@ -21,6 +22,7 @@ pub use reach::{
     Reach, calls_without_redirection_are_decided_alike, reach_between, reach_is_determined,
 };
 pub use redirections::{alternate_of_nobody, is_in_circle, redirects_never};
+pub use spare_lines::spare_count;
 pub use station_warnings::{
     StationWarnings, barred_preferential, is_alone, needs_selection, warnings,
 };

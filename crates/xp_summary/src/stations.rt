@@ -73,6 +73,8 @@ fn push_access(text: &mut String, access: &Access) -> Result<(), AllocError> {
             let port = router.port();
             write!(text, "router {address} port {port}")
         }
+        // No line of a station is a spare place.
+        Access::Spare => Ok(()),
     }
 }
 

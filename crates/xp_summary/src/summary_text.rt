@@ -3,6 +3,7 @@
 use crate::by_group::push_groups;
 use crate::line_warning_text::push_line_warnings;
 use crate::matrix::push_matrix;
+use crate::spare_lines::spare_count;
 use crate::stations::push_station;
 use crate::warning_text::push_warnings;
 use std::alloc::{AllocError, Global};
@@ -19,17 +20,28 @@ const MOST_IN_MATRIX: usize = 64;
 /// An allocation failed.
 pub fn summary(alloc: Global, subs: &Subs) -> Result<String, AllocError> {
     let mut text = String::new(alloc);
-    let counts = subs.counts();
-    writeln!(
-        text,
-        "stations {} lines {} groups {}",
-        counts.stations, counts.lines, counts.groups
-    )?;
+    push_counts(&mut text, subs)?;
     push_stations(&mut text, subs)?;
     push_calls(alloc, &mut text, subs)?;
     push_all_warnings(&mut text, subs)?;
     push_all_line_warnings(&mut text, subs)?;
     Ok(text)
+}
+
+/// How many stations, lines and groups there are, and how many spare lines, if any.
+fn push_counts(text: &mut String, subs: &Subs) -> Result<(), AllocError> {
+    let counts = subs.counts();
+    let spare = spare_count(subs);
+    let lines = counts.lines.saturating_sub(spare);
+    write!(
+        text,
+        "stations {} lines {lines} groups {}",
+        counts.stations, counts.groups
+    )?;
+    if spare > 0 {
+        write!(text, " spare lines {spare}")?;
+    }
+    writeln!(text, "")
 }
 
 /// Who may call whom: a matrix, or where that would be too wide and too long, a list by groups.

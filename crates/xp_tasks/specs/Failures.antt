@@ -8,6 +8,7 @@ use Rattle.xp_tasks.specs.declared.failure.TaskFailure.TheVariants.{File, Subscr
 -- 2 for the script, 4 for want of room, 5 for input and output
 abbrev pub replay_status : ReplayFault → ℕ
 replay_status (replays.Script line) = 2
+replay_status (replays.Lay line tables) = 2
 replay_status (replays.Reload line tables why) = 2
 replay_status replays.Journal = 4
 replay_status replays.Memory = 4

@@ -35,7 +35,9 @@ impl TaskFailure {
         ensures { result ≡ status_of self.now }
     {
         match self {
-            TaskFailure::Replay(ReplayFault::Script(_) | ReplayFault::Reload(_, _, _)) => 2,
+            TaskFailure::Replay(
+                ReplayFault::Script(_) | ReplayFault::Lay(_, _) | ReplayFault::Reload(_, _, _),
+            ) => 2,
             TaskFailure::File | TaskFailure::Subscriptions(_) => 3,
             TaskFailure::Memory | TaskFailure::Replay(ReplayFault::Journal | ReplayFault::Memory) =>
                 4,

@@ -4,6 +4,7 @@
 mod failure;
 mod performing;
 mod set_up;
+mod spare;
 mod task;
 
 pub use failure::TaskFailure;

@@ -1,5 +1,6 @@
 ghost use Rattle.xp_tasks.specs.SetUp.{set_up_text};
 
+use crate::spare::{SpareLines, spare_count};
 use std::fmt;
 use xp_subs::{Counts, Subs};
 
@@ -17,9 +18,15 @@ impl fmt::Display for SetUp<'_> {
     fn fmt<W: fmt::Write>(&self, f: &mut fmt::Formatter<W>) -> fmt::Result {
         let Counts {
             stations,
-            lines,
+            lines: places,
             groups,
         } = self.subs.counts();
-        write!(f, "stations {stations} lines {lines} groups {groups}")
+        let count = spare_count(self.subs);
+        let lines = places.saturating_sub(count);
+        let spare = SpareLines(count);
+        write!(
+            f,
+            "stations {stations} lines {lines} groups {groups}{spare}"
+        )
     }
 }

@@ -1,5 +1,5 @@
 pub mod Accesses
 pub mod Admissions
-pub mod Links
 pub mod Networks
+pub mod NextPlaces
 pub mod steps

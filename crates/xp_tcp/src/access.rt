@@ -9,4 +9,6 @@ pub enum Access {
     Port(u16),
     /// They come from a router, or are made to it, at this address and port: one for each call (RFC 1613).
     Router(SocketAddr),
+    /// No line is here, and no connection comes.
+    Spare,
 }

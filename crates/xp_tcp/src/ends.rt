@@ -1,23 +1,19 @@
 //! What the threads of an exchange's lines are given of its sockets.
 
 ghost use Rattle.std.specs.Prelude.{◌≡◌, IfOk, map};
-ghost use Rattle.xp_tcp.specs.steps.Sources.{source_origin};
 
 use crate::clock::TcpClock;
-use crate::line_listener::LineListener;
+use crate::door_sockets::DoorSockets;
+use crate::line_places::{LinePlaces, ServedPlaces};
 use crate::line_port::LinePort;
-use crate::line_sockets::{LineSockets, LineSource};
+use crate::line_sockets::LineSockets;
 use crate::poller::TcpPoller;
-use crate::port::TcpPort;
-use crate::router_port::RouterPort;
-use crate::thread_links::ThreadLinks;
+use crate::rooms::Rooms;
 use crate::thread_sockets::ThreadSockets;
 use std::alloc::{AllocError, Global};
-use std::net::SocketAddr;
 use std::sync::Arc;
 use xp_clock::Start;
-use xp_door::{Caller, Door, DoorBell, DoorSockets, LineShare, LineWaker, Notices, RouterLine};
-use xp_subs::LineNo;
+use xp_door::{Door, DoorBell, Doorway, LineWaker, Routes};
 
 /// What the lines are given, in line order, what their threads are, each for the next lines, and the door, if it was opened.
 #[derive(Drop)]
@@ -29,9 +25,9 @@ pub struct Ends {
 
 /// What the ends of all lines share.
 pub(crate) struct Shared {
-    wakers: Arc<Vec<LineWaker>>,
-    notices: Arc<Notices>,
-    bell: Option<Arc<DoorBell>>,
+    pub(crate) wakers: Arc<Vec<LineWaker>>,
+    pub(crate) places: Arc<LinePlaces>,
+    pub(crate) bell: Option<Arc<DoorBell>>,
     start: Start,
 }
 
@@ -39,7 +35,7 @@ impl Drop for Shared {
     fn drop(self) {
         let Shared {
             wakers: _,
-            notices: _,
+            places: _,
             bell: _,
             start: _,
         } = self;
@@ -47,19 +43,19 @@ impl Drop for Shared {
 }
 
 impl Shared {
-    /// What the lines with these wakers and notices share, and this door, if it was opened.
+    /// What the lines with these wakers, in these places, share, and this door, if it was opened.
     pub(crate) fn of(
         alloc: Global,
         wakers: Vec<LineWaker>,
-        notices: Arc<Notices>,
+        places: Arc<LinePlaces>,
         door: &Option<DoorSockets>,
     ) -> Result<Shared, AllocError> {
         let bell = bell_of(door)?;
         let wakers = Arc::new(alloc, wakers)?;
         Ok(Shared {
             wakers,
-            start: notices.start,
-            notices,
+            start: places.notices.start,
+            places,
             bell,
         })
     }
@@ -74,12 +70,15 @@ impl Shared {
     ) -> Result<Ends, AllocError>
         ensures { IfOk result (λ ends. map (λ end. end.0) ends.lines.items ≡ lines.items) }
     {
-        let mut behind = Vec::with_capacity(alloc, lines.len())?;
+        let mut rooms = Rooms::new(alloc, lines.len())?;
         let threads = pollers_of(alloc, threads, &self.wakers)?;
-        let lines = ends_of(alloc, lines, &self, &mut behind)?;
+        let lines = ends_of(alloc, lines, &self, &mut rooms)?;
         let door = match door {
-            Some(door) => Some(self.open(alloc, door, behind)?),
-            None => None,
+            Some(door) => Some(self.open(alloc, door, rooms)?),
+            None => {
+                self.serve(rooms, None);
+                None
+            }
         };
         Ok(Ends {
             lines,
@@ -88,97 +87,71 @@ impl Shared {
         })
     }
 
-    /// What the thread of a line is given. A line behind a router is put behind those so far.
+    /// The bell of the door once more, if there is a door.
+    pub(crate) fn bell_again(&self) -> Result<Option<Arc<DoorBell>>, AllocError> {
+        match &self.bell {
+            Some(bell) => Ok(Some(Arc::try_clone(bell)?)),
+            None => Ok(None),
+        }
+    }
+
+    /// What the thread of a line is given. Its place is put behind those so far.
     fn end_of(
         &self,
         alloc: Global,
         line: LineSockets,
-        behind: &mut Vec<Arc<RouterLine>>,
+        rooms: &mut Rooms,
     ) -> Result<(LinePort, TcpClock), AllocError>
         ensures { IfOk result (λ end. end.0 ≡ line) }
     {
-        let LineSockets {
-            line,
-            source,
-            links,
-        } = line;
         let wakers = Arc::try_clone(&self.wakers)?;
-        let clock = TcpClock::new(wakers, usize::from(line), self.start);
-        let port = self.port_of(alloc, line, source, links, behind)?;
+        let clock = TcpClock::new(wakers, usize::from(line.line), self.start);
+        let port = rooms.add(alloc, self, line)?;
         Ok((port, clock))
     }
 
-    /// The port of a line. A line behind a router is put behind those so far.
-    fn port_of(
-        &self,
-        alloc: Global,
-        line: LineNo,
-        source: LineSource,
-        links: Arc<ThreadLinks>,
-        behind: &mut Vec<Arc<RouterLine>>,
-    ) -> Result<LinePort, AllocError>
-        ensures { IfOk result (λ port. port ≡ source_origin source) }
-    {
-        let share = LineShare::new(line, &self.wakers, &self.notices)?;
-        match source {
-            LineSource::Own(port, listener, admission) => {
-                let listener = Arc::new(alloc, LineListener::new(listener, admission, share))?;
-                Ok(LinePort::own(port, TcpPort::new(listener, links)))
-            }
-            LineSource::Router(router, caller) => {
-                let router_line = self.behind(alloc, line, router, caller)?;
-                behind.push(Arc::try_clone(&router_line)?)?;
-                Ok(LinePort::behind(router, RouterPort::new(router_line, links, share)))
-            }
-        }
+    /// The door of the lines in these places.
+    fn open(&self, alloc: Global, door: DoorSockets, rooms: Rooms) -> Result<Door, AllocError> {
+        let mut rooms = rooms;
+        let DoorSockets {
+            poll,
+            waits,
+            events,
+            bell,
+            listener,
+        } = door;
+        let routes = Routes::new(alloc, rooms.take_routed())?;
+        let doorway = Arc::new(alloc, Doorway::new(bell, waits, listener, routes))?;
+        let theirs = Arc::try_clone(&doorway)?;
+        let wakers = Arc::try_clone(&self.wakers)?;
+        let notices = Arc::try_clone(&self.places.notices)?;
+        let lines = rooms.router_lines(alloc)?;
+        let door = Door::new(alloc, doorway, poll, events, lines, wakers, notices)?;
+        self.serve(rooms, Some(theirs));
+        Ok(door)
     }
 
-    /// What a line behind a router and the door share.
-    fn behind(
-        &self,
-        alloc: Global,
-        line: LineNo,
-        router: SocketAddr,
-        caller: Caller,
-    ) -> Result<Arc<RouterLine>, AllocError>
-        ensures { IfOk result (λ shared. (shared.value.router ≡ router) × (shared.value.caller ≡ caller)) }
-    {
-        let bell = match &self.bell {
-            Some(bell) => Some(Arc::try_clone(bell)?),
-            None => None,
-        };
-        Ok(Arc::new(alloc, RouterLine::new(line, router, caller, bell))?)
-    }
-
-    /// The door of these lines.
-    fn open(
-        self,
-        alloc: Global,
-        door: DoorSockets,
-        behind: Vec<Arc<RouterLine>>,
-    ) -> Result<Door, AllocError> {
-        let Shared {
-            wakers,
-            notices,
-            bell: _,
-            start: _,
-        } = self;
-        Door::new(alloc, door, behind, wakers, notices)
+    /// These places are served, with this door.
+    fn serve(&self, rooms: Rooms, door: Option<Arc<Doorway>>) {
+        self.places.serve(ServedPlaces {
+            lines: rooms.into_places(),
+            door,
+        });
     }
 }
 
-/// What the threads of the lines are given, in line order. The lines behind routers are put behind those so far.
+/// What the threads of the lines are given, in line order. Their places are put behind those so far.
 fn ends_of(
     alloc: Global,
     lines: Vec<LineSockets>,
     shared: &Shared,
-    behind: &mut Vec<Arc<RouterLine>>,
+    rooms: &mut Rooms,
 ) -> Result<Vec<(LinePort, TcpClock)>, AllocError>
     ensures { IfOk result (λ ends. map (λ end. end.0) ends.items ≡ lines.items) }
 {
     let mut ends = Vec::with_capacity(alloc, lines.len())?;
     for line in lines {
-        ends.push(shared.end_of(alloc, line, behind)?)?;
+        ends.push(shared.end_of(alloc, line, rooms)?)?;
     }
     Ok(ends)
 }

@@ -1,20 +1,19 @@
-//! The socket that listens at a line's own port.
+//! The port of a line's own, as the line's thread and whoever changes the port share it.
 
-ghost use Rattle.std.specs.Prelude.{◌≡◌, ◌↔◌, ◌⊎◌, IfOk};
 ghost use Rattle.std.specs.IoError.{error_kind};
-ghost use Rattle.std.specs.Net.Socket.{socket_ip};
-ghost use Rattle.xp_tcp.specs.Admissions.{Admits};
+ghost use Rattle.std.specs.Prelude.{◌≡◌, ◌↔◌, ◌⊎◌};
 ghost use Rattle.xp_tcp.specs.declared.line_listener.NoConnection.TheVariants as reasons;
 
 use crate::admission::Admission;
+use crate::own_port::{NotTaken, OwnPort};
 use crate::refusals::Refusals;
 use mio::net::TcpListener;
+use mio::{Registry, Token};
 use std::io;
 use std::io::ErrorKind;
-use std::marker::Model;
-use std::sync::Mutex;
 use std::sync::atomic::AtomicBool;
 use std::sync::atomic::Ordering::SeqCst;
+use std::sync::{Mutex, Wait};
 use xp_door::{Arrival, LineShare, Notice, hold, is_in_want};
 
 /// How many connections are taken at most in one look, where those before failed or were refused.
@@ -31,12 +30,10 @@ pub(crate) enum NoConnection {
     Fault,
 }
 
-/// The socket that listens at a line's own port, and from where the line's connections may come, which is all that contracts see of it.
-/// The line's port and its link share it, on the line's thread.
+/// The port of a line's own, if it has one. The line's port and its link share it, on the line's thread, with whoever changes it.
 #[derive(Drop)]
 pub(crate) struct LineListener {
-    listener: TcpListener,
-    admission: Admission,
+    own: Mutex<OwnPort>,
     pub(crate) share: LineShare,
     /// A connection that takes the place of the line's.
     next: Mutex<Option<Arrival>>,
@@ -45,22 +42,10 @@ pub(crate) struct LineListener {
     is_failing: AtomicBool,
 }
 
-impl Model for LineListener {
-    ghost use Rattle.std.specs.Prelude.{List};
-    ghost use Rattle.xp_tcp.specs.declared.source.Source.{Source};
-
-    ghost Value = { List Source };
-
-    ghost view = { λ listener. listener.admission };
-}
-
 impl LineListener {
-    pub(crate) fn new(listener: TcpListener, admission: Admission, share: LineShare) -> LineListener
-        ensures { result ≡ admission }
-    {
+    pub(crate) fn new(own: OwnPort, share: LineShare) -> LineListener {
         LineListener {
-            listener,
-            admission,
+            own: Mutex::new(own),
             share,
             next: Mutex::new(None),
             refusals: Refusals::new(),
@@ -69,25 +54,32 @@ impl LineListener {
     }
 
     /// Takes a connection that has come. One from an address that is not admitted is closed, and told.
-    pub(crate) fn accept(&self) -> Result<Arrival, NoConnection>
-        ensures { IfOk result (λ arrival. Admits self.now (socket_ip arrival.peer)) }
-    {
-        match self.listener.accept() {
-            Ok((stream, peer)) => {
-                self.note(false);
-                if !self.admission.admits(peer.ip()) {
-                    let line = self.share.line;
-                    self.refuse(Notice::Refused { line, peer });
-                    return Err(NoConnection::Passed);
-                }
-                Ok(Arrival { stream, peer })
+    pub(crate) fn accept(&self) -> Result<Arrival, NoConnection> {
+        let taken = match hold(&self.own) {
+            Some(own) => own.accept(),
+            None => {
+                self.look_again();
+                return Err(NoConnection::Nothing);
             }
-            Err(error) => {
+        };
+        match taken {
+            Ok(arrival) => {
+                self.note(false);
+                Ok(arrival)
+            }
+            Err(NotTaken::Stranger(peer)) => {
+                self.note(false);
+                let line = self.share.line;
+                self.refuse(Notice::Refused { line, peer });
+                Err(NoConnection::Passed)
+            }
+            Err(NotTaken::Failed(error)) => {
                 if let Some(fails) = is_in_want(&error) {
                     self.note(fails);
                 }
                 Err(reason_of(&error))
             }
+            Err(NotTaken::NoSocket) => Err(NoConnection::Nothing),
         }
     }
 
@@ -119,13 +111,21 @@ impl LineListener {
     fn meet(&self, arrival: Arrival) {
         let line = self.share.line;
         let peer = arrival.peer;
-        if self.admission.is_any() {
+        if self.admits_any() {
             self.refuse(Notice::HasOne { line, peer });
             return;
         }
         if let Some(mut next) = hold(&self.next) {
             *next = Some(arrival);
             self.share.tell(Notice::Replaced { line, peer });
+        }
+    }
+
+    /// Whether connections may come from any address.
+    fn admits_any(&self) -> bool {
+        match hold(&self.own) {
+            Some(own) => own.admits_any(),
+            None => true,
         }
     }
 
@@ -181,6 +181,56 @@ impl LineListener {
         } else {
             Notice::PortWorks { line }
         });
+    }
+}
+
+impl LineListener {
+    /// The port at which its socket listens.
+    pub(crate) fn port<R: Wait>(&self, rt: &R) -> Option<u16> {
+        self.own.lock(rt).port()
+    }
+
+    /// Lets another thread wait for the socket too, by this name.
+    pub(crate) fn register_at<R: Wait>(
+        &self,
+        rt: &R,
+        waits: &Registry,
+        name: Token,
+    ) -> io::Result<()> {
+        self.own.lock(rt).register_at(waits, name)
+    }
+
+    /// That thread does not wait for it any more.
+    pub(crate) fn deregister_at(&self, waits: &Registry) {
+        if let Some(mut own) = hold(&self.own) {
+            own.deregister_at(waits);
+        }
+    }
+
+    /// The socket, which is to listen for another line. From now on there is none here.
+    pub(crate) fn take_listener<R: Wait>(&self, rt: &R) -> Option<TcpListener> {
+        self.own.lock(rt).take_listener()
+    }
+
+    /// This is the line's port from now on. What there was of the one before is forgotten, and its connections that were not taken are
+    /// closed.
+    pub(crate) fn renew<R: Wait>(&self, rt: &R, own: OwnPort) {
+        *self.own.lock(rt) = own;
+        *self.next.lock(rt) = None;
+        self.refusals.forget();
+        self.is_failing.store(false, SeqCst);
+    }
+
+    /// From where connections may come that come from now on.
+    pub(crate) fn set_admission<R: Wait>(&self, rt: &R, admission: Admission) {
+        self.own.lock(rt).set_admission(admission);
+    }
+
+    /// The line's thread has ended: no socket listens any more.
+    pub(crate) fn close(&self) {
+        if let Some(mut own) = hold(&self.own) {
+            own.take_listener();
+        }
     }
 }
 

@@ -1,78 +1,73 @@
 //! The ports and links of lines of both kinds.
 
-ghost use Rattle.std.specs.Prelude.{◌≡◌, ◌≢◌, ◌≤◌, length};
+ghost use Rattle.std.specs.Prelude.{◌≡◌, ◌≢◌, ◌≤◌, IfOk, length};
 ghost use Rattle.xp_links.specs.Counts.{pulled_count, pushed_count};
-ghost use Rattle.xp_tcp.specs.Accesses.{AtPort, Behind};
+ghost use Rattle.xp_tcp.specs.Accesses.{first_origin};
 
-use crate::access::Access;
+use crate::line_place::LinePlace;
+use crate::line_sockets::LineSockets;
 use crate::link::TcpLink;
+use crate::period::Standing;
 use crate::port::TcpPort;
 use crate::router_link::RouterLink;
 use crate::router_port::RouterPort;
+use std::alloc::AllocError;
 use std::marker::Model;
-use std::net::SocketAddr;
+use std::sync::Arc;
 use xp_links::{Arrived, Link, Port, Pulled, Pushed};
+use xp_past::Past;
 
-/// Where a line's links come from. Contracts see where its connections come from, and from which addresses they may.
+/// Where a line's links come from: its own port or its router, as its place has them at that moment. Contracts see with what the place
+/// began: where its connections came from, and from which addresses they might.
 pub struct LinePort {
-    access: Access,
-    source: LinkSource,
+    first: Past<LineSockets>,
+    place: Arc<LinePlace>,
+    own: TcpPort,
+    behind: RouterPort,
 }
 
 impl Drop for LinePort {
     fn drop(self) {
         let LinePort {
-            access: _,
-            source: _,
+            first: _,
+            place,
+            own: _,
+            behind: _,
         } = self;
+        place.own.close();
     }
-}
-
-/// What gives a line its links.
-#[derive(Drop)]
-enum LinkSource {
-    Own(TcpPort),
-    Router(RouterPort),
 }
 
 impl Model for LinePort {
-    ghost use Rattle.xp_tcp.specs.Accesses.{Origin};
-    ghost use Rattle.xp_tcp.specs.Links.{link_origin};
+    ghost use Rattle.xp_tcp.specs.Accesses.{Origin, first_origin};
 
     ghost Value = { Origin };
 
-    ghost view = { λ port. link_origin port.access port.source };
+    ghost view = { λ port. first_origin port.first.items };
 }
 
 impl LinePort {
-    /// The port of a line with a TCP port of its own.
-    pub(crate) fn own(port: u16, source: TcpPort) -> LinePort
-        ensures { result ≡ AtPort port source }
+    /// The port of a line in this place, which begins so.
+    pub(crate) fn new(
+        first: Past<LineSockets>,
+        place: Arc<LinePlace>,
+    ) -> Result<LinePort, AllocError>
+        ensures { IfOk result (λ port. port ≡ first_origin first.items) }
     {
-        LinePort {
-            access: Access::Port(port),
-            source: LinkSource::Own(source),
-        }
+        let share = place.own.share.try_clone()?;
+        let own = TcpPort::new(Arc::try_clone(&place.own)?, Arc::try_clone(&place.links)?);
+        let behind = RouterPort::new(
+            Arc::try_clone(&place.behind)?,
+            Arc::try_clone(&place.links)?,
+            share,
+        );
+        Ok(LinePort {
+            first,
+            place,
+            own,
+            behind,
+        })
     }
-
-    /// The port of a line behind the router of this address.
-    pub(crate) fn behind(router: SocketAddr, source: RouterPort) -> LinePort
-        ensures { result ≡ Behind source.0 source.1 }
-    {
-        LinePort {
-            access: Access::Router(router),
-            source: LinkSource::Router(source),
-        }
-    }
-}
-
-/// A link of a line.
-#[derive(Drop)]
-pub enum LineLink {
-    /// A connection to the line's own TCP port.
-    Own(TcpLink),
-    /// The link of a line behind a router.
-    Router(RouterLink),
 }
 
 impl Port for LinePort {
@@ -81,18 +76,54 @@ impl Port for LinePort {
     fn next(&mut self) -> Arrived<LineLink>
         ensures { self.new ≡ self.old }
     {
-        match &mut self.source {
-            LinkSource::Own(port) => match port.next() {
-                Arrived::Came(link) => Arrived::Came(LineLink::Own(link)),
-                Arrived::Nothing => Arrived::Nothing,
-                Arrived::Fault => Arrived::Fault,
-            },
-            LinkSource::Router(port) => match port.next() {
-                Arrived::Came(link) => Arrived::Came(LineLink::Router(link)),
-                Arrived::Nothing => Arrived::Nothing,
-                Arrived::Fault => Arrived::Fault,
-            },
+        let Some(period) = self.place.period.open() else {
+            return Arrived::Nothing;
+        };
+        let Ok(place) = Arc::try_clone(&self.place) else {
+            return Arrived::Nothing;
+        };
+        let next = if self.behind.is_behind() {
+            by_router(self.behind.next())
+        } else {
+            by_port(self.own.next())
+        };
+        match next {
+            Arrived::Came(link) => Arrived::Came(LineLink {
+                place,
+                period,
+                link,
+            }),
+            Arrived::Nothing => Arrived::Nothing,
+            Arrived::Fault => Arrived::Fault,
         }
+    }
+}
+
+/// A link of a line. It is over once the line is gone, or has another port or router. No octets pass on it while the line's place is
+/// held.
+pub struct LineLink {
+    place: Arc<LinePlace>,
+    /// The period of the place in which it began.
+    period: u64,
+    link: KindOfLink,
+}
+
+/// A link of either kind.
+#[derive(Drop)]
+enum KindOfLink {
+    /// A connection to the line's own TCP port.
+    Own(TcpLink),
+    /// The link of a line behind a router.
+    Router(RouterLink),
+}
+
+impl Drop for LineLink {
+    fn drop(self) {
+        let LineLink {
+            place: _,
+            period: _,
+            link: _,
+        } = self;
     }
 }
 
@@ -101,9 +132,32 @@ impl Link for LineLink {
         ensures bound { pulled_count result ≤ length into.new }
         ensures some { result ≢ Pulled.Octets 0 }
     {
+        match self.place.standing(self.period) {
+            Standing::Open => self.link.pull(into),
+            Standing::Held => Pulled::Nothing,
+            Standing::Over => Pulled::Ended,
+        }
+    }
+
+    fn push(&mut self, from: &[u8]) -> Pushed
+        ensures bound { pushed_count result ≤ length from.now }
+    {
+        match self.place.standing(self.period) {
+            Standing::Open => self.link.push(from),
+            Standing::Held => Pushed::Nothing,
+            Standing::Over => Pushed::Fault,
+        }
+    }
+}
+
+impl Link for KindOfLink {
+    fn pull(&mut self, into: &mut [u8]) -> Pulled
+        ensures bound { pulled_count result ≤ length into.new }
+        ensures some { result ≢ Pulled.Octets 0 }
+    {
         match self {
-            LineLink::Own(link) => link.pull(into),
-            LineLink::Router(link) => link.pull(into),
+            KindOfLink::Own(link) => link.pull(into),
+            KindOfLink::Router(link) => link.pull(into),
         }
     }
 
@@ -111,8 +165,26 @@ impl Link for LineLink {
         ensures bound { pushed_count result ≤ length from.now }
     {
         match self {
-            LineLink::Own(link) => link.push(from),
-            LineLink::Router(link) => link.push(from),
+            KindOfLink::Own(link) => link.push(from),
+            KindOfLink::Router(link) => link.push(from),
         }
+    }
+}
+
+/// What a router has for a line, as a link of either kind.
+fn by_router(next: Arrived<RouterLink>) -> Arrived<KindOfLink> {
+    match next {
+        Arrived::Came(link) => Arrived::Came(KindOfLink::Router(link)),
+        Arrived::Nothing => Arrived::Nothing,
+        Arrived::Fault => Arrived::Fault,
+    }
+}
+
+/// What a port has for a line, as a link of either kind.
+fn by_port(next: Arrived<TcpLink>) -> Arrived<KindOfLink> {
+    match next {
+        Arrived::Came(link) => Arrived::Came(KindOfLink::Own(link)),
+        Arrived::Nothing => Arrived::Nothing,
+        Arrived::Fault => Arrived::Fault,
     }
 }

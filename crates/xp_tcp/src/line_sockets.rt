@@ -10,7 +10,7 @@ use crate::admission::Admission;
 use crate::thread_links::ThreadLinks;
 use crate::tokens::listener_of;
 use mio::net::TcpListener;
-use mio::{Interest, Poll, Token};
+use mio::{Interest, Registry, Token};
 use std::io;
 use std::marker::Model;
 use std::net::{Net, SocketAddr};
@@ -25,6 +25,8 @@ pub(crate) enum LineSource {
     Own(u16, TcpListener, Admission),
     /// The router of this address, whose calls are matched with this.
     Router(SocketAddr, Caller),
+    /// Nowhere: the place is spare.
+    Spare,
 }
 
 /// A line, and where its connections come from, which is all that contracts see of it.
@@ -33,6 +35,8 @@ pub(crate) struct LineSockets {
     pub(crate) line: LineNo,
     pub(crate) source: LineSource,
     pub(crate) links: Arc<ThreadLinks>,
+    /// The number of the line's thread.
+    pub(crate) thread: usize,
 }
 
 impl Model for LineSockets {
@@ -52,6 +56,7 @@ impl LineSockets {
         match &self.source {
             LineSource::Own(port, _, _) => Access::Port(*port),
             LineSource::Router(router, _) => Access::Router(*router),
+            LineSource::Spare => Access::Spare,
         }
     }
 }
@@ -59,21 +64,21 @@ impl LineSockets {
 /// Listens at an address for a line: the socket, for which the line's thread waits. At port 0 the system picks one.
 pub(crate) fn open_port<R: Net>(
     rt: &R,
-    poll: &Poll,
+    waits: &Registry,
     address: SocketAddr,
     line: LineNo,
     admission: Admission,
 ) -> io::Result<LineSource>
     ensures { IfOk result (λ source. IsListening (socket_port address) admission (source_origin source)) }
 {
-    let (listener, port) = listen_at(rt, poll, address, listener_of(line))?;
+    let (listener, port) = listen_at(rt, waits, address, listener_of(line))?;
     Ok(LineSource::Own(port, listener, admission))
 }
 
 /// Listens at an address: the socket, for which a thread waits, and its port. At port 0 the system picks one.
 pub(crate) fn listen_at<R: Net>(
     rt: &R,
-    poll: &Poll,
+    waits: &Registry,
     address: SocketAddr,
     token: Token,
 ) -> io::Result<(TcpListener, u16)>
@@ -84,7 +89,6 @@ pub(crate) fn listen_at<R: Net>(
         0 => listener.local_addr()?.port(),
         port => port,
     };
-    poll.registry()
-        .register(&mut listener, token, Interest::READABLE)?;
+    waits.register(&mut listener, token, Interest::READABLE)?;
     Ok((listener, port))
 }

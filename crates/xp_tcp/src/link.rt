@@ -19,7 +19,7 @@ use xp_links::{Link, Pulled, Pushed};
 
 /// A TCP connection of a line. It tells the notice that the line is up as it is made, and that the line is down, and why, as it is
 /// dropped. A peer that is gone ends it within some 90 seconds. It ends where another connection takes its place.
-pub struct TcpLink {
+pub(crate) struct TcpLink {
     stream: TcpStream,
     listener: Arc<LineListener>,
     links: Arc<ThreadLinks>,
@@ -36,7 +36,7 @@ impl Drop for TcpLink {
         } = self;
         let line = listener.share.line;
         let reason = notes.reason();
-        listener.share.tell(Notice::Down { line, reason });
+        listener.share.tell_down(Notice::Down { line, reason });
         links.let_go(stream);
     }
 }
@@ -52,7 +52,7 @@ impl TcpLink {
         let mut stream = stream;
         wait_for(&mut stream, &links.waits, &listener.share, Patience::Line)?;
         let line = listener.share.line;
-        listener.share.tell(Notice::Up { line, peer });
+        listener.share.tell_up(Notice::Up { line, peer });
         let notes = ConnectionNotes::new(&listener.share, Patience::Line);
         Ok(TcpLink {
             stream,

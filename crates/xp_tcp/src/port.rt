@@ -1,36 +1,21 @@
 //! Where the links of a line with a port of its own come from.
 
-ghost use Rattle.std.specs.Prelude.{◌≡◌};
-
 use crate::line_listener::{LineListener, MOST_TAKEN, NoConnection};
 use crate::link::TcpLink;
 use crate::thread_links::ThreadLinks;
-use std::marker::Model;
 use std::sync::Arc;
 use xp_door::Arrival;
-use xp_links::{Arrived, Port};
+use xp_links::Arrived;
 
-/// Gives a line its links: the connections to its own port. Contracts see the hosts and networks from which these may come, none where
-/// they may come from any address.
+/// Gives a line its links: the connections to its own port.
 #[derive(Drop)]
-pub struct TcpPort {
+pub(crate) struct TcpPort {
     listener: Arc<LineListener>,
     links: Arc<ThreadLinks>,
 }
 
-impl Model for TcpPort {
-    ghost use Rattle.std.specs.Prelude.{List};
-    ghost use Rattle.xp_tcp.specs.declared.source.Source.{Source};
-
-    ghost Value = { List Source };
-
-    ghost view = { λ port. port.listener.value };
-}
-
 impl TcpPort {
-    pub(crate) fn new(listener: Arc<LineListener>, links: Arc<ThreadLinks>) -> TcpPort
-        ensures { result ≡ listener.value }
-    {
+    pub(crate) fn new(listener: Arc<LineListener>, links: Arc<ThreadLinks>) -> TcpPort {
         TcpPort { listener, links }
     }
 
@@ -45,14 +30,9 @@ impl TcpPort {
         let links = Arc::try_clone(&self.links).ok()?;
         TcpLink::new(arrival, listener, links).ok()
     }
-}
 
-impl Port for TcpPort {
-    type Link = TcpLink;
-
-    fn next(&mut self) -> Arrived<TcpLink>
-        ensures { self.new ≡ self.old }
-    {
+    /// The next link, if a connection has come.
+    pub(crate) fn next(&self) -> Arrived<TcpLink> {
         self.listener.tell_left_out();
         if let Some(link) = self.next_link() {
             return Arrived::Came(link);

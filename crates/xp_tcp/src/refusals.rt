@@ -43,6 +43,12 @@ impl Refusals {
         }
     }
 
+    /// None any more: the next one is told.
+    pub(crate) fn forget(&self) {
+        self.left_out.store(0, SeqCst);
+        self.quiet_until.store(0, SeqCst);
+    }
+
     /// Whether something may be told. Where it may, nothing more may for ten seconds.
     fn ends_quiet(&self) -> bool {
         let now = uptime().unwrap_or(Duration::MAX).as_secs();

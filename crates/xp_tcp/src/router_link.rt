@@ -37,7 +37,7 @@ enum Circuit {
 /// a call to the line it connects to the router, for 5 seconds at most. After a call is cleared on both sides it closes the
 /// connection, and stays. It ends with a connection that ends before that. A router that is gone ends its connection within some
 /// 30 seconds.
-pub struct RouterLink {
+pub(crate) struct RouterLink {
     circuit: Circuit,
     line: Arc<RouterLine>,
     links: Arc<ThreadLinks>,
@@ -60,7 +60,7 @@ impl Drop for RouterLink {
                 let line = share.line;
                 let reason = connection.reason();
                 links.let_go(connection.into_stream());
-                share.tell(Notice::Down { line, reason });
+                share.tell_down(Notice::Down { line, reason });
             }
             Circuit::Free | Circuit::Asked(_) | Circuit::Connecting(_, _) | Circuit::Failed => {}
         }
@@ -103,7 +103,7 @@ impl RouterLink {
             return;
         }
         let line = self.share.line;
-        self.share.tell(Notice::Up { line, peer });
+        self.share.tell_up(Notice::Up { line, peer });
         self.circuit = Circuit::Connected(RouterConnection::from_router(stream, peer, &self.share));
     }
 
@@ -157,7 +157,7 @@ impl RouterLink {
         }
         if let Ok(peer) = stream.peer_addr() {
             let line = self.share.line;
-            self.share.tell(Notice::Connected { line, peer });
+            self.share.tell_up(Notice::Connected { line, peer });
             self.circuit = Circuit::Connected(RouterConnection::to_router(stream, &self.share));
         } else if is_late(since) {
             self.fail(ConnectFault::NoAnswer);
@@ -186,6 +186,7 @@ impl RouterLink {
         }
         let mut stream = connection.into_stream();
         let _ = self.links.waits.deregister(&mut stream);
+        self.share.forget_up();
         self.ask(Some(Arrival { stream, peer }));
     }
 
@@ -202,7 +203,7 @@ impl RouterLink {
     fn close(&mut self) {
         let circuit = mem::replace(&mut self.circuit, Circuit::Free);
         let line = self.share.line;
-        self.share.tell(Notice::Closed { line });
+        self.share.tell_down(Notice::Closed { line });
         // A router that sees the end may connect again at once.
         self.line.release();
         if let Circuit::Connected(connection) = circuit {

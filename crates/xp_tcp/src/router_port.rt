@@ -1,17 +1,13 @@
 //! Where the links of a line behind a router come from.
 
-ghost use Rattle.std.specs.Prelude.{◌≡◌};
-
 use crate::router_link::RouterLink;
 use crate::thread_links::ThreadLinks;
-use std::marker::Model;
 use std::sync::Arc;
 use xp_door::{LineShare, RouterLine};
 use xp_links::Arrived;
 
 /// Gives a line behind a router its links, the next one as soon as the last went: so the line is in service.
-/// Contracts see the router's address, and what its calls are matched with.
-pub struct RouterPort {
+pub(crate) struct RouterPort {
     line: Arc<RouterLine>,
     links: Arc<ThreadLinks>,
     share: LineShare,
@@ -28,24 +24,18 @@ impl Drop for RouterPort {
     }
 }
 
-impl Model for RouterPort {
-    ghost use Rattle.std.specs.declared.net.socket_addr.SocketAddr.{SocketAddr};
-    ghost use Rattle.xp_door.specs.declared.choosing.Caller.{Caller};
-
-    ghost Value = { SocketAddr × Caller };
-
-    ghost view = { λ port. (port.line.value.router, port.line.value.caller) };
-}
-
 impl RouterPort {
     pub(crate) fn new(
         line: Arc<RouterLine>,
         links: Arc<ThreadLinks>,
         share: LineShare,
-    ) -> RouterPort
-        ensures { result ≡ (line.value.router, line.value.caller) }
-    {
+    ) -> RouterPort {
         RouterPort { line, links, share }
+    }
+
+    /// Whether the line is behind a router.
+    pub(crate) fn is_behind(&self) -> bool {
+        self.line.is_behind()
     }
 
     /// The next link. None for once after one that was not used: the line could not come into service, and its thread is to let

@@ -2,17 +2,17 @@
 
 ghost use Rattle.std.specs.Prelude.{◌≡◌, ◌<◌, ◌∷◌, ◌++◌, [], IfOk, IfSome, OnErr, OnOk, map, option_map, slice_get};
 ghost use Rattle.std.specs.Net.Socket.{socket_port};
-ghost use Rattle.xp_tcp.specs.Accesses.{Behind, Listens, access_of, port_of};
+ghost use Rattle.xp_tcp.specs.Accesses.{Behind, Listens, Spare, access_of, port_of};
 ghost use Rattle.xp_tcp.specs.steps.Sources.{source_origin};
 ghost use Rattle.xp_tcp.specs.declared.sockets.ListenFault.TheVariants.{Memory as OutOfMemory, Port as NoPort};
 
 use crate::access::Access;
 use crate::admission::Admission;
+use crate::door_sockets::DoorSockets;
 use crate::ends::{Ends, Shared};
+use crate::line_places::LinePlaces;
 use crate::line_sockets::{LineSockets, LineSource, listen_at, open_port};
 use crate::thread_sockets::ThreadSockets;
-use crate::tokens::{WAKER, listener_of};
-use mio::{Events, Poll, Waker};
 use std::alloc::{AllocError, Global};
 use std::io;
 use std::marker::Model;
@@ -20,11 +20,8 @@ use std::net::{IpAddr, Net, SocketAddr};
 use std::num::NonZeroUsize;
 use std::sync::Arc;
 use thiserror::Error;
-use xp_door::{Caller, DoorBell, DoorSockets, LineWaker, Marks, Notices};
-use xp_subs::{LineNo, MOST_LINES};
-
-/// How many events a wait of the door takes.
-const MOST_EVENTS: usize = 3;
+use xp_door::{Caller, LineWaker};
+use xp_subs::LineNo;
 
 /// Why a port is not listened on, or a line has no sockets.
 #[derive(Clone, Copy, Debug, Drop, PartialEq, Error)]
@@ -61,7 +58,7 @@ pub struct Sockets {
     threads: Vec<ThreadSockets>,
     lines_of_thread: usize,
     door: Option<DoorSockets>,
-    notices: Arc<Notices>,
+    places: Arc<LinePlaces>,
 }
 
 impl Drop for Sockets {
@@ -72,7 +69,7 @@ impl Drop for Sockets {
             threads: _,
             lines_of_thread: _,
             door: _,
-            notices: _,
+            places: _,
         } = self;
     }
 }
@@ -87,13 +84,13 @@ impl Model for Sockets {
 }
 
 impl Sockets {
-    /// No sockets yet, with room for so many lines, which so many threads are to serve. What becomes of their connections is told
-    /// to the notices.
+    /// No sockets yet, with room for so many lines, which so many threads are to serve in these places. What becomes of their
+    /// connections is told to the notices of the places.
     pub fn new(
         alloc: Global,
         count: usize,
         threads: NonZeroUsize,
-        notices: Arc<Notices>,
+        places: Arc<LinePlaces>,
     ) -> Result<Sockets, AllocError>
         ensures { IfOk result (λ sockets. sockets ≡ []) }
     {
@@ -103,7 +100,7 @@ impl Sockets {
             threads: Vec::new(alloc),
             lines_of_thread: count.div_ceil(threads.get()).max(1),
             door: None,
-            notices,
+            places,
         })
     }
 
@@ -128,7 +125,7 @@ impl Sockets {
             return Err(ListenFault::Memory);
         };
         let address = SocketAddr::new(host, port);
-        let source = open_port(rt, &thread.poll, address, number, admission)?;
+        let source = open_port(rt, &thread.links.waits, address, number, admission)?;
         self.push(number, source)
     }
 
@@ -150,9 +147,21 @@ impl Sockets {
         self.push(number, LineSource::Router(router, caller))
     }
 
-    /// Listens on a port, at an address of the machine, for the connections of all routers. At port 0 the system picks one. Lines
-    /// behind routers need it, whether they are added before or after it: what listens here also makes the connections to
-    /// routers.
+    /// Adds a place for a line that may come later.
+    ///
+    /// # Errors
+    ///
+    /// `Port` where the system has no descriptors left, or where there are 65,536 lines already, `Memory`. No place is added then.
+    pub fn add_spare<R: Net>(&mut self, rt: &R) -> Result<(), ListenFault>
+        ensures ok { OnOk result (self.new ≡ self.old ++ Spare ∷ []) }
+        ensures err { OnErr result (self.new ≡ self.old) }
+    {
+        let number = self.reserve(rt)?;
+        self.push(number, LineSource::Spare)
+    }
+
+    /// Makes the door for all routers, and where an address is given, listens there. At port 0 the system picks one. Lines behind routers
+    /// need it, whether they are added before or after it, or come later: what listens here also makes the connections to routers.
     ///
     /// # Errors
     ///
@@ -161,24 +170,15 @@ impl Sockets {
         &mut self,
         rt: &R,
         alloc: Global,
-        host: IpAddr,
-        port: u16,
+        at: Option<SocketAddr>,
     ) -> Result<(), ListenFault>
         ensures { self.new ≡ self.old }
     {
-        let events = Events::with_capacity(alloc, MOST_EVENTS)?;
-        let wanted = Marks::new(alloc, MOST_LINES)?;
-        let poll = Poll::new(rt)?;
-        let (listener, port) = listen_at(rt, &poll, SocketAddr::new(host, port), listener_of(0))?;
-        let waker = Waker::new(poll.registry(), WAKER)?;
-        let bell = Arc::new(alloc, DoorBell::new(waker, wanted)).map_err(|_| ListenFault::Memory)?;
-        self.door = Some(DoorSockets {
-            listener,
-            poll,
-            events,
-            bell,
-            port,
-        });
+        let mut door = DoorSockets::new(rt, alloc)?;
+        if let Some(at) = at {
+            door.listen(rt, at)?;
+        }
+        self.door = Some(door);
         Ok(())
     }
 
@@ -195,15 +195,7 @@ impl Sockets {
     {
         match self.access(line) {
             Some(Access::Port(port)) => Some(port),
-            Some(Access::Router(_)) | None => None,
-        }
-    }
-
-    /// The port on which the door listens, if it was opened.
-    pub fn door_port(&self) -> Option<u16> {
-        match &self.door {
-            Some(door) => Some(door.port),
-            None => None,
+            Some(Access::Router(_) | Access::Spare) | None => None,
         }
     }
 
@@ -218,9 +210,9 @@ impl Sockets {
             threads,
             lines_of_thread: _,
             door,
-            notices,
+            places,
         } = self;
-        let shared = Shared::of(alloc, wakers, notices, &door)?;
+        let shared = Shared::of(alloc, wakers, places, &door)?;
         shared.into_ends(alloc, lines, threads, door)
     }
 
@@ -252,6 +244,7 @@ impl Sockets {
     {
         self.lines.reserve(1)?;
         self.wakers.reserve(1)?;
+        let number = self.threads.len();
         let Some(thread) = self.threads.last_mut() else {
             return Err(ListenFault::Memory);
         };
@@ -263,6 +256,7 @@ impl Sockets {
             line,
             source,
             links,
+            thread: number,
         });
         Ok(())
     }

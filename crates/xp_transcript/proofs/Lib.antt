@@ -1,3 +1,4 @@
+pub mod Coming
 mod Feeds
 mod Pieces
 mod TellLines

@@ -1,26 +1,28 @@
 -- What is told of lines, one after the other.
-use Rattle.std.proofs.Common.{◌≡◌, ℕ, ◌+◌, ◌≤◌, List, [], ◌∷◌, ◌++◌, length, refl, sym, ap, ◌∙◌, inl, inr, subst, take, Option, None, Some, Result, Ok, Err, arith}
+use Rattle.std.proofs.Common.{◌≡◌, ℕ, ◌+◌, ◌<◌, ◌≤◌, List, [], ◌∷◌, ◌++◌, length, refl, sym, ap, ◌∙◌, inl, inr, subst, append-nil, take, Option, None, Some, Result, Ok, Err, arith}
+use Rattle.std.proofs.Math.Seq.{take-append-add, take-length}
 use Rattle.std.specs.Io.KnownBytes.{Appends}
 use Rattle.xp_step.specs.declared.event.Event.{Event}
 use Rattle.xp_exchange.specs.declared.fault.ReplayFault.{ReplayFault}
-use Rattle.xp_exchange.specs.declared.fault.ReplayFault.TheVariants.{Script, Journal, Memory, Read, Write, Reload}
-use Rattle.xp_exchange.specs.Play.{ActsOn, Brings, PlayState, Plays, PlaysAll, PlaysLine, ReadsLine, RefusesLine, ReloadsLine}
+use Rattle.xp_exchange.specs.declared.fault.ReplayFault.TheVariants.{Script, Journal, Memory, Read, Write, Lay, Reload}
+use Rattle.xp_exchange.specs.Play.{ActsOn, Brings, BringsLine, LineRead, MayCome, PlayState, Plays, PlaysAll, ReadsLine, RefusesLine, force_in, stalls_at}
 use Rattle.xp_writing.proofs.Bytes.{appends_both, appends_nothing}
-use Rattle.xp_exchange.proofs.Played.{brings_none}
-use Rattle.xp_exchange.proofs.TablesLines.{brings_one, plays_reload}
-use Rattle.xp_exchange.specs.declared.reloaded.Reloaded.{Reloaded}
+use Rattle.xp_exchange.proofs.Acts.{acts_on_both}
+use Rattle.xp_exchange.proofs.TablesLines.{all_bring, front_brings, front_in_order, plays_tables}
+use Rattle.xp_exchange.specs.declared.next_tables.NextTables.{NextTables}
+use Rattle.xp_step.specs.Exchange.{Exchange}
+use Rattle.xp_subs.specs.Tables.{Tables}
 use Rattle.xp_core.specs.Reload.{reload_at}
 use Rattle.xp_script.specs.declared.command.Command.TheVariants as commands
-use Rattle.xp_script.specs.Command.{reload_of}
-use Rattle.xp_script.specs.NamedText.{NamedText}
 use Rattle.xp_transcript.specs.Transcript.{entry_told, teller_after}
+use Rattle.xp_transcript.specs.declared.teller.Teller.{Teller}
 use Rattle.xp_transcript.specs.Telling.{IsTold, IsToldInPart, StopsAt, TellState, TellsInPart, TellsScript, lines_of, onto}
-use Rattle.xp_transcript.specs.steps.Telling.{TellsEach, TellsEntry, TellsEvents, TellsLine, TellsWhole}
-use Rattle.xp_transcript.proofs.Told.{told_both, told_in_no_part, told_nothing, told_one}
+use Rattle.xp_transcript.specs.steps.Telling.{TellsEach, TellsEvents, TellsLine, TellsNext, TellsWhole}
+use Rattle.xp_transcript.proofs.Told.{told_both, told_front, told_in_no_part, told_nothing, told_one}
 
-brings_nothing : (A : Type 0) (named : List NamedText) (number : Option ℕ) → Brings {A = A} named number []
-brings_nothing A named None = tt
-brings_nothing A named (Some number) = tt
+brings_nothing : (A : Type 0) (brought : Option Tables) → Brings {A = A} brought []
+brings_nothing A None = tt
+brings_nothing A (Some laid) = tt
 
 module _ {A : Type 0} where
   -- the line is not read
@@ -36,11 +38,13 @@ module _ {A : Type 0} where
         says = refused.0.says;
         events = refused.0.events;
         after = refused.0.after;
+        brought = refused.0.brought;
         plays = refused.0.plays;
         part = told_in_no_part old.play.exchange old.teller refused.0.events;
-        brings = brings_nothing A old.play.named (reload_of refused.0.command);
+        brings = brings_nothing A refused.0.brought;
       }
-      go (Reload found tables why) refused = (refused.0, refused.1, refl)
+      go (Lay found tables) refused = (refused.0, refused.1, refused.2, refl)
+      go (Reload found tables why) refused = (refused.0, refused.1, refused.2, refl)
       go Read refused = elim refused [ ]
       go Write refused = elim refused [ ]
 
@@ -51,9 +55,10 @@ module _ {A : Type 0} where
     says = reads.says;
     events = events;
     after = read.play.unfinished;
+    brought = None;
     plays = reads.plays;
     part = told_here;
-    brings = brings_none old.play.named (reload_of reads.command) told_here.acts.entries reads.brings_none;
+    brings = tt;
   }
 
   whole : (old read new : TellState A) (line text : List ℕ) (events : List (Event A)) → ReadsLine old.play line events read.play → read.teller ≡ old.teller
@@ -63,10 +68,11 @@ module _ {A : Type 0} where
       command = reads.command;
       says = reads.says;
       events = events;
-      plays = subst (λ unfinished. Plays old.play reads.command events unfinished) (sym (ap (λ (play : PlayState A). play.unfinished) told.kept)) reads.plays;
+      brought = None;
+      plays = subst (λ unfinished. Plays old.play reads.command events unfinished None) (sym (ap (λ (play : PlayState A). play.unfinished) told.kept)) reads.plays;
       moment = ap (λ (play : PlayState A). play.moment) told.kept ∙ reads.moment;
       acts = acts;
-      brings = brings_none old.play.named (reload_of reads.command) acts.entries reads.brings_none;
+      brings = tt;
       named = ap (λ (play : PlayState A). play.named) told.kept ∙ reads.named;
     };
     told = subst (λ teller. IsTold old.play.exchange teller new.play.exchange new.teller text) same
@@ -82,51 +88,123 @@ module _ {A : Type 0} where
   read_line (Err Write) old read new number line events text reads same told = in_part old read line text events reads same told
   read_line (Err Read) old read new number line events text reads same told = elim told [ ]
   read_line (Err (Script found)) old read new number line events text reads same told = elim told [ ]
+  read_line (Err (Lay found tables)) old read new number line events text reads same told = elim told [ ]
   read_line (Err (Reload found tables why)) old read new number line events text reads same told = elim told [ ]
 
-  reload_in_part : (old : TellState A) (new : PlayState A) (line own : List ℕ) (done : Reloaded A) (name : List ℕ) (count : ℕ) → ReloadsLine old.play line new done
-      → own ≡ take count (entry_told old.play.exchange.subs old.teller name done.entry) → TellsInPart old line own
-  reload_in_part old new line own done name count reloads front = record {
-    command = commands.Reload done.number;
-    says = reloads.says;
-    events = reload_at old.play.moment ∷ [];
+  -- the lines that go are given up in part
+  brings_in_part : (old : TellState A) (line own : List ℕ) (events : List (Event A)) (next : NextTables) → BringsLine old.play line events next → IsToldInPart old.play.exchange old.teller events own
+      → TellsInPart old line own
+  brings_in_part old line own events next brings part = record {
+    command = commands.Reload next.number;
+    says = brings.says;
+    events = stalls_at old.play.moment brings.going ++ reload_at old.play.moment ∷ [];
     after = old.play.unfinished;
-    plays = (refl, refl);
+    brought = Some next.subs;
+    plays = (next.subs, brings.going, brings.lays, refl, refl, refl);
     part = record {
-      first = reload_at old.play.moment ∷ [];
-      later = [];
-      in_order = refl;
-      after = new.exchange;
-      acts = reloads.reloads.enters.acts;
-      behind = teller_after old.play.exchange.subs old.teller done.entry;
-      whole = entry_told old.play.exchange.subs old.teller name done.entry;
-      told = told_one old.play.exchange new.exchange old.teller (teller_after old.play.exchange.subs old.teller done.entry) name done.entry _ reloads.reloads.enters.history refl refl;
-      count = count;
-      front = front;
+      first = part.first;
+      later = part.later ++ reload_at old.play.moment ∷ [];
+      in_order = front_in_order old.play line events part.first part.later next brings part.in_order;
+      after = part.after;
+      acts = part.acts;
+      behind = part.behind;
+      whole = part.whole;
+      told = part.told;
+      count = part.count;
+      front = part.front;
     };
-    brings = brings_one old.play.exchange new.exchange old.play.named done.number old.play.moment done.entry reloads.reloads;
+    brings = front_brings old.play line events part.first part.later next part.after brings part.in_order part.acts;
   }
 
-  -- the line brings tables, and the entry of that is told
-  pub tell_reload : (result : Result (Unit {0}) ReplayFault) (old new : TellState A) (read : PlayState A) (number : ℕ) (line : List ℕ) (done : Reloaded A) (name text : List ℕ) → ReloadsLine old.play line read done
-      → TellsEntry (record { play = read; teller = old.teller }) name done.entry result new text → TellsLine old number line result new text
-  tell_reload (Ok ended) old new read number line done name text reloads told =
-      let same : read.exchange.subs ≡ old.play.exchange.subs = reloads.reloads.enters.acts.subs in
+  brings_broken : (fault : ReplayFault) (old new : TellState A) (number : ℕ) (line : List ℕ) (events : List (Event A)) (next : NextTables) (text : List ℕ) → BringsLine old.play line events next
+      → TellsEvents old events (Err fault) new text → TellsLine old number line (Err fault) new text
+  brings_broken Journal old new number line events next text brings told = brings_in_part old line text events next brings told
+  brings_broken Memory old new number line events next text brings told = inr (brings_in_part old line text events next brings told)
+  brings_broken Write old new number line events next text brings told = brings_in_part old line text events next brings told
+  brings_broken Read old new number line events next text brings told = elim told [ ]
+  brings_broken (Script found) old new number line events next text brings told = elim told [ ]
+  brings_broken (Lay found tables) old new number line events next text brings told = elim told [ ]
+  brings_broken (Reload found tables why) old new number line events next text brings told = elim told [ ]
+
+  -- it stops at one of the events of a line that was read
+  pub broken_line : (next : Option NextTables) (fault : ReplayFault) (old read new : TellState A) (number : ℕ) (line : List ℕ) (events : List (Event A)) (text : List ℕ) → LineRead old.play line events read.play next
+      → read.teller ≡ old.teller → TellsEvents read events (Err fault) new text → TellsLine old number line (Err fault) new text
+  broken_line None fault old read new number line events text reads same told = read_line (Err fault) old read new number line events text reads.0 same told
+  broken_line (Some next) fault old read new number line events text reads same told =
+      brings_broken fault old new number line events next text reads.0
+      (subst (λ teller. TellsEvents (record { play = old.play; teller = teller }) events (Err fault) new text) same
+      (subst (λ play. TellsEvents (record { play = play; teller = read.teller }) events (Err fault) new text) reads.1 told))
+
+  -- the lines that go are given up, and then the tables come into force
+  pub tell_brought : (result : Result (Unit {0}) ReplayFault) (old new : TellState A) (between : Exchange A) (teller : Teller) (number : ℕ) (line : List ℕ) (events : List (Event A)) (next : NextTables)
+      (name one other : List ℕ) → BringsLine old.play line events next → TellsEach old events (record { play = record old.play { exchange = between }; teller = teller }) one
+      → TellsNext (record { play = record old.play { exchange = between }; teller = teller }) next name result new other → TellsLine old number line result new (one ++ other)
+  tell_brought (Ok done) old new between teller number line events next name one other brings told comes = record {
+    plays = plays_tables old.play new.play line events next between brings told.acts comes.0 comes.2;
+    told = told_both old.play.exchange between new.play.exchange old.teller teller new.teller one other told.acts.subs told.told
+        (told_one between new.play.exchange teller new.teller name comes.0.entry other comes.0.enters.history comes.1 comes.3);
+  }
+  tell_brought (Err Memory) old new between teller number line events next name one other brings told none =
+      let is : one ++ other ≡ take (length one) one = ap (λ rest. one ++ rest) none ∙ append-nil one ∙ sym (take-length one) in
+      inr (brings_in_part old line (one ++ other) events next brings
+      (told_front old.play.exchange between old.teller teller events one (one ++ other) (length one) told.acts told.told is))
+  tell_brought (Err Write) old new between teller number line events next name one other brings told comes =
+      let entry = comes.0.entry in
+      let force : Tables = force_in between in
       record {
-        plays = subst (λ play. PlaysLine old.play line play) (sym told.1) (plays_reload old.play read line done reloads);
-        told = told_one old.play.exchange new.play.exchange old.teller new.teller name done.entry text
-            (ap (λ (play : PlayState A). play.exchange.history) told.1 ∙ reloads.reloads.enters.history)
-            (told.0 ∙ ap (λ subs. entry_told subs old.teller name done.entry) same)
-            (told.2 ∙ ap (λ subs. teller_after subs old.teller done.entry) same);
+        command = commands.Reload next.number;
+        says = brings.says;
+        events = events ++ reload_at old.play.moment ∷ [];
+        after = old.play.unfinished;
+        brought = Some next.subs;
+        plays = (next.subs, brings.going, brings.lays, ap (λ front. front ++ reload_at old.play.moment ∷ []) brings.gives_up, refl, refl);
+        part = record {
+          first = events ++ reload_at old.play.moment ∷ [];
+          later = [];
+          in_order = sym (append-nil (events ++ reload_at old.play.moment ∷ []));
+          after = new.play.exchange;
+          acts = acts_on_both old.play.exchange between new.play.exchange events (reload_at old.play.moment ∷ []) told.acts comes.0.enters.acts;
+          behind = teller_after force teller entry;
+          whole = one ++ entry_told force teller name entry;
+          told = told_both old.play.exchange between new.play.exchange old.teller teller (teller_after force teller entry) one (entry_told force teller name entry) told.acts.subs told.told
+              (told_one between new.play.exchange teller (teller_after force teller entry) name entry (entry_told force teller name entry) comes.0.enters.history refl refl);
+          count = length one + comes.1;
+          front = ap (λ rest. one ++ rest) comes.2 ∙ sym (take-append-add one (entry_told force teller name entry) comes.1);
+        };
+        brings = all_bring old.play line events next between new.play.exchange brings told.acts comes.0;
       }
-  tell_reload (Err Memory) old new read number line done name text reloads told = inl told
-  tell_reload (Err Write) old new read number line done name text reloads told =
-      reload_in_part old read line text done name told.0 reloads
-      (told.1 ∙ ap (λ subs. take told.0 (entry_told subs old.teller name done.entry)) reloads.reloads.enters.acts.subs)
-  tell_reload (Err Journal) old new read number line done name text reloads told = elim told [ ]
-  tell_reload (Err Read) old new read number line done name text reloads told = elim told [ ]
-  tell_reload (Err (Script found)) old new read number line done name text reloads told = elim told [ ]
-  tell_reload (Err (Reload found tables why)) old new read number line done name text reloads told = elim told [ ]
+  tell_brought (Err Journal) old new between teller number line events next name one other brings told comes = elim comes [ ]
+  tell_brought (Err Read) old new between teller number line events next name one other brings told comes = elim comes [ ]
+  tell_brought (Err (Script found)) old new between teller number line events next name one other brings told comes = elim comes [ ]
+  tell_brought (Err (Lay found tables)) old new between teller number line events next name one other brings told comes = elim comes [ ]
+  tell_brought (Err (Reload found tables why)) old new between teller number line events next name one other brings told comes = elim comes [ ]
+
+  -- a line that was read, whose events are told
+  told_of : (old read mid : TellState A) (line : List ℕ) (events : List (Event A)) (next : NextTables) (one : List ℕ) → LineRead old.play line events read.play (Some next) → read.teller ≡ old.teller
+      → TellsEach read events mid one → TellsEach old events mid one
+  told_of old read mid line events next one reads same told =
+      subst (λ teller. TellsEach (record { play = old.play; teller = teller }) events mid one) same
+      (subst (λ play. TellsEach (record { play = play; teller = read.teller }) events mid one) reads.1 told)
+
+  -- the tables that it brings may come into force then
+  pub next_known : (old read mid : TellState A) (line : List ℕ) (events : List (Event A)) (next : NextTables) (one : List ℕ) → LineRead old.play line events read.play (Some next) → read.teller ≡ old.teller
+      → TellsEach read events mid one → next.number < length mid.play.named
+  next_known old read mid line events next one reads same told =
+      let named : mid.play.named ≡ old.play.named = ap (λ (play : PlayState A). play.named) (told_of old read mid line events next one reads same told).kept in
+      subst (λ texts. next.number < length texts) (sym named) reads.0.known
+
+  pub next_may : (old read mid : TellState A) (line : List ℕ) (events : List (Event A)) (next : NextTables) (one : List ℕ) → LineRead old.play line events read.play (Some next) → read.teller ≡ old.teller
+      → TellsEach read events mid one → MayCome mid.play.exchange next.subs
+  next_may old read mid line events next one reads same told = reads.0.comes mid.play.exchange (told_of old read mid line events next one reads same told).acts
+
+  pub line_brought : (result : Result (Unit {0}) ReplayFault) (old read mid new : TellState A) (number : ℕ) (line : List ℕ) (events : List (Event A)) (next : NextTables) (name one other : List ℕ)
+      → LineRead old.play line events read.play (Some next) → read.teller ≡ old.teller → TellsEach read events mid one → TellsNext mid next name result new other
+      → TellsLine old number line result new (one ++ other)
+  line_brought result old read mid new number line events next name one other reads same told then =
+      let each = told_of old read mid line events next one reads same told in
+      tell_brought result old new mid.play.exchange mid.teller number line events next name one other reads.0
+      (subst (λ play. TellsEach old events (record { play = play; teller = mid.teller }) one) each.kept each)
+      (subst (λ play. TellsNext (record { play = play; teller = mid.teller }) next name result new other) each.kept then)
 
   pub record LinesSoFar (first : TellState A) (script rest : List ℕ) (now : TellState A) (number : ℕ) (old new : Option (List ℕ)) : Type 0 where
     -- the latest first

@@ -9,53 +9,62 @@ use Rattle.xp_step.specs.declared.entry.Entry.{Entry}
 use Rattle.xp_step.specs.declared.event.Event.{Event}
 use Rattle.xp_step.specs.Exchange.{Exchange}
 use Rattle.xp_exchange.specs.declared.fault.ReplayFault.{ReplayFault}
-use Rattle.xp_exchange.specs.declared.fault.ReplayFault.TheVariants.{Script, Journal, Memory, Read, Write, Reload}
+use Rattle.xp_exchange.specs.declared.fault.ReplayFault.TheVariants.{Script, Journal, Memory, Read, Write, Lay, Reload}
 use Rattle.xp_exchange.specs.FrameEvents.{Fits}
-use Rattle.xp_exchange.specs.Play.{ActsOn, Enters, PlayState, RefusesEvent}
+use Rattle.xp_exchange.specs.Play.{ActsOn, ComesIntoForce, Enters, PlayState, RefusesEvent, force_in}
+use Rattle.xp_exchange.specs.declared.next_tables.NextTables.{NextTables}
+use Rattle.xp_exchange.proofs.Force.{force_on}
+use Rattle.xp_step.specs.InForce.{in_force, last_of}
+use Rattle.xp_step.proofs.InForce.{in_force_still}
 use Rattle.xp_exchange.specs.Acting.{Puts}
 use Rattle.xp_exchange.proofs.Acts.{acts_on_both, acts_on_nothing}
 use Rattle.xp_writing.proofs.Bytes.{appends_both, appends_nothing}
 use Rattle.xp_transcript.specs.declared.teller.Teller.{Teller}
 use Rattle.xp_transcript.specs.Telling.{IsTold, IsToldInPart, TellState}
-use Rattle.xp_transcript.specs.Transcript.{ToldEntry, entries_of, entry_told, teller_after, teller_behind, transcript}
-use Rattle.xp_transcript.specs.steps.Telling.{TellsEach, TellsEntry, TellsEvents}
+use Rattle.xp_transcript.specs.Transcript.{ToldEntry, entries_of, entry_told, plain_told, reload_told, teller_after, teller_behind, teller_by, teller_on, teller_renewed, told_by, transcript}
+use Rattle.xp_transcript.specs.steps.Telling.{TellsEach, TellsEvents, TellsNext}
 
 module _ {A : Type 0} where
-  transcript-append : (tables : Tables) (teller : Teller) (xs ys : List (ToldEntry A)) → transcript tables teller (xs ++ ys) ≡ transcript tables teller xs ++ transcript tables (teller_behind tables teller xs) ys
-  transcript-append tables teller [] ys = refl
-  transcript-append tables teller (x ∷ xs) ys =
-      ap (λ rest. entry_told tables teller x.name x.entry ++ rest) (transcript-append tables (teller_after tables teller x.entry) xs ys)
-      ∙ sym (append_assoc (entry_told tables teller x.name x.entry) (transcript tables (teller_after tables teller x.entry) xs) (transcript tables (teller_behind tables (teller_after tables teller x.entry) xs) ys))
+  transcript-append : (force : Tables) (teller : Teller) (xs ys : List (ToldEntry A))
+      → transcript force teller (xs ++ ys) ≡ transcript force teller xs ++ transcript (in_force force (entries_of xs)) (teller_behind force teller xs) ys
+  transcript-append force teller [] ys = refl
+  transcript-append force teller (x ∷ xs) ys =
+      let next : Tables = last_of force x.entry.tables.items in
+      let then : Teller = teller_after force teller x.entry in
+      ap (λ rest. entry_told force teller x.name x.entry ++ rest) (transcript-append next then xs ys)
+      ∙ sym (append_assoc (entry_told force teller x.name x.entry) (transcript next then xs) (transcript (in_force next (entries_of xs)) (teller_behind next then xs) ys))
 
-  behind-append : (tables : Tables) (teller : Teller) (xs ys : List (ToldEntry A)) → teller_behind tables teller (xs ++ ys) ≡ teller_behind tables (teller_behind tables teller xs) ys
-  behind-append tables teller [] ys = refl
-  behind-append tables teller (x ∷ xs) ys = behind-append tables (teller_after tables teller x.entry) xs ys
+  behind-append : (force : Tables) (teller : Teller) (xs ys : List (ToldEntry A)) → teller_behind force teller (xs ++ ys) ≡ teller_behind (in_force force (entries_of xs)) (teller_behind force teller xs) ys
+  behind-append force teller [] ys = refl
+  behind-append force teller (x ∷ xs) ys = behind-append (last_of force x.entry.tables.items) (teller_after force teller x.entry) xs ys
 
   pub told_nothing : (old : Exchange A) (teller : Teller) → IsTold old teller old teller []
   told_nothing old teller = record { told = []; history = sym (append-nil old.history); text_is = refl; behind_is = refl }
 
   pub told_one : (old new : Exchange A) (teller behind : Teller) (name : List ℕ) (entry : Entry A) (text : List ℕ) → new.history ≡ old.history ++ entry ∷ []
-      → text ≡ entry_told old.subs teller name entry → behind ≡ teller_after old.subs teller entry → IsTold old teller new behind text
+      → text ≡ entry_told (force_in old) teller name entry → behind ≡ teller_after (force_in old) teller entry → IsTold old teller new behind text
   told_one old new teller behind name entry text history is after = record {
     told = record { entry = entry; name = name } ∷ [];
     history = history;
-    text_is = is ∙ sym (append-nil (entry_told old.subs teller name entry));
+    text_is = is ∙ sym (append-nil (entry_told (force_in old) teller name entry));
     behind_is = after;
   }
 
   pub told_both : (old between new : Exchange A) (first second third : Teller) (one other : List ℕ) → between.subs ≡ old.subs
       → IsTold old first between second one → IsTold between second new third other → IsTold old first new third (one ++ other)
   told_both old between new first second third one other same a b =
-      let later : other ≡ transcript old.subs (teller_behind old.subs first a.told) b.told =
-      b.text_is ∙ ap (λ subs. transcript subs second b.told) same ∙ ap (λ teller. transcript old.subs teller b.told) a.behind_is in
+      let force : Tables = in_force (force_in old) (entries_of a.told) in
+      let there : force_in between ≡ force = force_on old between (entries_of a.told) same a.history in
+      let later : other ≡ transcript force (teller_behind (force_in old) first a.told) b.told =
+      b.text_is ∙ ap (λ tables. transcript tables second b.told) there ∙ ap (λ teller. transcript force teller b.told) a.behind_is in
       record {
         told = a.told ++ b.told;
         history = b.history ∙ ap (λ front. front ++ entries_of b.told) a.history ∙ append_assoc old.history (entries_of a.told) (entries_of b.told)
             ∙ ap (λ rest. old.history ++ rest) (sym (map-append (λ (one : ToldEntry A). one.entry) a.told b.told));
-        text_is = ap (λ front. front ++ other) a.text_is ∙ ap (λ rest. transcript old.subs first a.told ++ rest) later
-            ∙ sym (transcript-append old.subs first a.told b.told);
-        behind_is = b.behind_is ∙ ap (λ subs. teller_behind subs second b.told) same ∙ ap (λ teller. teller_behind old.subs teller b.told) a.behind_is
-            ∙ sym (behind-append old.subs first a.told b.told);
+        text_is = ap (λ front. front ++ other) a.text_is ∙ ap (λ rest. transcript (force_in old) first a.told ++ rest) later
+            ∙ sym (transcript-append (force_in old) first a.told b.told);
+        behind_is = b.behind_is ∙ ap (λ tables. teller_behind tables second b.told) there ∙ ap (λ teller. teller_behind force teller b.told) a.behind_is
+            ∙ sym (behind-append (force_in old) first a.told b.told);
       }
 
   -- nothing of the events is told
@@ -176,6 +185,7 @@ module _ {A : Type 0} where
       go Memory part = after part
       go Write part = after part
       go (Script number) part = elim part [ ]
+      go (Lay number tables) part = elim part [ ]
       go (Reload number tables why) part = elim part [ ]
       go Read part = elim part [ ]
 
@@ -190,6 +200,7 @@ module _ {A : Type 0} where
       go Write refused = elim refused [ ]
       go Read refused = elim refused [ ]
       go (Script number) refused = elim refused [ ]
+      go (Lay number tables) refused = elim refused [ ]
       go (Reload number tables why) refused = elim refused [ ]
 
   -- its entry is not told
@@ -199,8 +210,8 @@ module _ {A : Type 0} where
 
   -- its entry is told, or a front of that
   pub told_event : (result : Result (Unit {0}) ReplayFault) (old new : TellState A) (event : Event A) (entry : Entry A) (before after : Option (List ℕ)) (text : List ℕ)
-      → Enters old.play.exchange event new.play.exchange entry → text ≡ entry_told old.play.exchange.subs old.teller [] entry
-      → new.teller ≡ teller_after old.play.exchange.subs old.teller entry → new.play ≡ record old.play { exchange = new.play.exchange }
+      → Enters old.play.exchange event new.play.exchange entry → text ≡ entry_told (force_in old.play.exchange) old.teller [] entry
+      → new.teller ≡ teller_after (force_in old.play.exchange) old.teller entry → new.play ≡ record old.play { exchange = new.play.exchange }
       → Puts before after text result
       → (own : List ℕ) × Appends before after own × TellsEvents old (event ∷ []) result new own
   told_event (Ok done) old new event entry before after text enters is behind kept puts = (
@@ -216,14 +227,37 @@ module _ {A : Type 0} where
         (told_one old.play.exchange new.play.exchange old.teller new.teller [] entry text enters.history is behind) refl),
   )
 
-  -- an entry is written, or a front of what is told of it
-  pub told_entry : (result : Result (Unit {0}) ReplayFault) (old new : TellState A) (name : List ℕ) (entry : Entry A) (before after : Option (List ℕ)) (text : List ℕ)
-      → text ≡ entry_told old.play.exchange.subs old.teller name entry → new.play ≡ old.play → new.teller ≡ teller_after old.play.exchange.subs old.teller entry
+  -- an entry that brings no tables leaves those in force
+  pub force_entered : (old new : Exchange A) (event : Event A) (entry : Entry A) → Enters old event new entry → entry.tables.items ≡ [] → force_in new ≡ force_in old
+  force_entered old new event entry enters none =
+      ap (λ subs. in_force subs new.history) enters.acts.subs ∙ ap (in_force old.subs) enters.history ∙ in_force_still old.subs old.history entry none
+
+  -- and it is told as any other
+  pub plain_is : (force : Tables) (teller : Teller) (entry : Entry A) → entry.tables.items ≡ [] → plain_told force teller entry ≡ entry_told force teller [] entry
+  plain_is force teller entry none = sym (ap (told_by force teller [] entry) none)
+
+  pub teller_is : (force : Tables) (teller : Teller) (entry : Entry A) → entry.tables.items ≡ [] → teller_on force teller entry ≡ teller_after force teller entry
+  teller_is force teller entry none = sym (ap (teller_by force teller entry) none)
+
+  -- what is told of tables that come into force is told of their entry
+  pub reload_is : (old new : Exchange A) (laid : Tables) (moment : ℕ) (name : List ℕ) (force : Tables) (teller : Teller) → (comes : ComesIntoForce old laid moment new)
+      → reload_told moment name force laid teller ≡ entry_told force teller name comes.entry
+  reload_is old new laid moment name force teller comes =
+      sym (ap (told_by force teller name comes.entry) comes.brought ∙ ap (λ (event : Event A). reload_told event.moment name force laid teller) comes.enters.event_is)
+
+  pub renewed_is : (old new : Exchange A) (laid : Tables) (moment : ℕ) (force : Tables) (teller : Teller) → (comes : ComesIntoForce old laid moment new)
+      → teller_renewed force laid teller ≡ teller_after force teller comes.entry
+  renewed_is old new laid moment force teller comes = sym (ap (teller_by force teller comes.entry) comes.brought)
+
+  -- tables are in force, and that is written, or a front of it
+  pub told_next : (result : Result (Unit {0}) ReplayFault) (old new : TellState A) (next : NextTables) (name : List ℕ) (before after : Option (List ℕ)) (text : List ℕ)
+      → (comes : ComesIntoForce old.play.exchange next.subs old.play.moment new.play.exchange) → text ≡ entry_told (force_in old.play.exchange) old.teller name comes.entry
+      → new.play ≡ record old.play { exchange = new.play.exchange } → new.teller ≡ teller_after (force_in old.play.exchange) old.teller comes.entry
       → Puts before after text result
-      → (own : List ℕ) × Appends before after own × TellsEntry old name entry result new own
-  told_entry (Ok done) old new name entry before after text is kept behind puts = (text, puts, (is, kept, behind))
-  told_entry (Err fault) old new name entry before after text is kept behind puts = (
+      → (own : List ℕ) × Appends before after own × TellsNext old next name result new own
+  told_next (Ok done) old new next name before after text comes is kept behind puts = (text, puts, (comes, is, kept, behind))
+  told_next (Err fault) old new next name before after text comes is kept behind puts = (
     take puts.1 text,
     puts.2,
-    subst (λ why. TellsEntry old name entry (Err why) new (take puts.1 text)) (sym puts.0) (puts.1, ap (take puts.1) is),
+    subst (λ why. TellsNext old next name (Err why) new (take puts.1 text)) (sym puts.0) (comes, puts.1, ap (take puts.1) is),
   )

@@ -2,7 +2,7 @@
 use Rattle.std.proofs.Common.{◌≡◌, ◌⊎◌, ℕ, List, [], ◌++◌, refl, sym, ap, inl, inr, subst, IfErr, IfSome, Option, None, Some, Result, Ok, Err, take}
 use Rattle.std.specs.Io.KnownBytes.{Appends, Keeps}
 use Rattle.xp_exchange.specs.declared.fault.ReplayFault.{ReplayFault}
-use Rattle.xp_exchange.specs.declared.fault.ReplayFault.TheVariants.{Script, Journal, Memory, Read, Write, Reload}
+use Rattle.xp_exchange.specs.declared.fault.ReplayFault.TheVariants.{Script, Journal, Memory, Read, Write, Lay, Reload}
 use Rattle.xp_exchange.specs.Acting.{Puts}
 use Rattle.xp_writing.proofs.Bytes.{appends_both, appends_kept, appends_nothing}
 use Rattle.xp_transcript.specs.declared.form.Form.{Form}
@@ -41,6 +41,7 @@ unread form first fault known why script = ([], appends_nothing known, inl (go f
     go Write why = elim why [ ]
     go Journal why = elim why [ ]
     go (Script number) why = elim why [ ]
+    go (Lay number tables) why = elim why [ ]
     go (Reload number tables reason) why = elim why [ ]
 
 -- the writer was flushed, or failed

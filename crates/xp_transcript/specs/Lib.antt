@@ -1,3 +1,4 @@
+pub mod Changed
 pub mod Places
 pub mod Rows
 pub mod Segments

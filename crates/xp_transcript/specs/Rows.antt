@@ -1,9 +1,9 @@
 -- The entries of a history as rows of a ladder diagram.
-use Rattle.std.specs.Prelude.{ℕ, ◌-◌, ◌^◌, ◌==◌, ◌&&◌, Bool, true, false, codes, if◌then◌else◌, List, [], ◌∷◌, ◌++◌, Option, None, Some}
+use Rattle.std.specs.Prelude.{ℕ, ◌-◌, ◌^◌, ◌==◌, ◌&&◌, Bool, true, false, codes, if◌then◌else◌, List, [], ◌∷◌, ◌++◌, Option, None, Some, option_map}
 use Rattle.std.specs.Fmt.{decimal, format_spec, padded_integral}
 use Rattle.xp_packets.specs.Diagnostics.{diagnostic_of}
 use Rattle.xp_charge.specs.Text.{name_of}
-use Rattle.xp_subs.specs.Tables.{Tables}
+use Rattle.xp_subs.specs.Tables.{Tables, line_count}
 use Rattle.xp_step.specs.declared.entry.Entry.{Entry}
 use Rattle.xp_step.specs.declared.event.What.{What}
 use Rattle.xp_step.specs.declared.event.What.TheVariants.{Up, Down, Frame, WrongFrame, Expire, Stall, Reload}
@@ -16,7 +16,8 @@ use Rattle.xp_words.specs.declared.direction.Direction.{Direction}
 use Rattle.xp_words.specs.declared.direction.Direction.TheVariants.{FromDte, FromDce}
 use Rattle.xp_transcript.specs.declared.ladder.Ladder.{Ladder}
 use Rattle.xp_transcript.specs.declared.place.Pair.{Pair}
-use Rattle.xp_transcript.specs.Places.{pair_of, place_of, placed_by}
+use Rattle.xp_transcript.specs.Places.{pair_of, place_of, placed_by, renewed_pair, renewed_places}
+use Rattle.xp_transcript.specs.Words.{change_words}
 
 -- the name of a line, if there is one
 abbrev pub name_at : Tables → Option ℕ → List ℕ
@@ -48,7 +49,7 @@ module _ {A : Type 0} where
   few_words (Frame identifier packet) = Some (short_packet_text FromDte packet)
   few_words (WrongFrame wrong) = Some (codes "no packet, diagnostic " ++ decimal (diagnostic_of wrong))
   few_words Expire = Some (codes "no answer in time")
-  few_words Stall = Some (codes "too slow")
+  few_words Stall = Some (codes "given up")
   few_words Reload = None
 
   abbrev pub few_put_words : Put A → Option (List ℕ)
@@ -56,15 +57,18 @@ module _ {A : Type 0} where
   few_put_words Close = Some (codes "connection closed")
 
 -- that the tables of this name are in force: a row of its own, with the moment in ten columns
-abbrev pub reload_row : ℕ → List ℕ → List ℕ
-reload_row moment name =
+abbrev pub reload_row : ℕ → List ℕ → ℕ → ℕ → List ℕ
+reload_row moment name new gone =
     padded_integral (format_spec 32 3 0 10 (2 ^ 64 - 1)) false [] (decimal moment)
-    ++ codes "  tables " ++ name ++ codes " are in force\n"
+    ++ codes "  tables " ++ name ++ codes " are in force" ++ change_words new gone ++ codes "\n"
 
-module _ {A : Type 0} where
-  abbrev pub reload_rows : ℕ → List ℕ → What A → List ℕ
-  reload_rows moment name Reload = reload_row moment name
-  reload_rows moment name what = []
+-- then no line stands where another one stood, and a heading counts as far as its lines stay
+abbrev pub renewed_ladder : Tables → Tables → Ladder → Ladder
+renewed_ladder old next ladder =
+    record {
+      places = renewed_places old next ladder.places (line_count old);
+      headed = option_map (renewed_pair old next) ladder.headed;
+    }
 
 -- the row of a message, if it is told, below its heading
 abbrev pub message_rows : Tables → ℕ → Ladder → ℕ → Direction → Option (List ℕ) → List ℕ
@@ -93,11 +97,10 @@ module _ {A : Type 0} where
   abbrev pub in_places : Ladder → Entry A → Ladder
   in_places ladder entry = record ladder { places = placed_by ladder.places entry }
 
-  -- the event, or which tables it brings, then the packets that it puts out
-  abbrev pub entry_rows : Tables → Ladder → List ℕ → Entry A → List ℕ
-  entry_rows tables ladder name entry =
-      reload_rows entry.event.moment name entry.event.what
-      ++ message_rows tables entry.event.moment (in_places ladder entry) entry.event.line FromDte (few_words entry.event.what)
+  -- the event, then the packets that it puts out
+  abbrev pub entry_rows : Tables → Ladder → Entry A → List ℕ
+  entry_rows tables ladder entry =
+      message_rows tables entry.event.moment (in_places ladder entry) entry.event.line FromDte (few_words entry.event.what)
       ++ output_rows tables entry.event.moment (after_message (in_places ladder entry) entry.event.line (few_words entry.event.what)) entry.outputs
 
   abbrev pub after_entry : Ladder → Entry A → Ladder

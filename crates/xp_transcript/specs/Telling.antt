@@ -1,15 +1,15 @@
 -- What is told of a script: the entries of the history that its lines make, in turn, up to the first fault.
-use Rattle.std.specs.Prelude.{◌≡◌, ◌⊎◌, ◌+◌, ◌==◌, ℕ, Bool, List, [], ◌∷◌, ◌++◌, length, take, None, Some, Result, Ok, Err}
+use Rattle.std.specs.Prelude.{◌≡◌, ◌⊎◌, ◌+◌, ◌==◌, ℕ, Bool, List, [], ◌∷◌, ◌++◌, length, take, Option, None, Some, Result, Ok, Err}
 use Rattle.std.specs.List.{slice_split}
 use Rattle.xp_subs.specs.Tables.{Tables, line_count}
 use Rattle.xp_step.specs.declared.event.Event.{Event}
 use Rattle.xp_step.specs.Exchange.{Exchange}
 use Rattle.xp_script.specs.declared.command.Command.{Command}
-use Rattle.xp_script.specs.Command.{reload_of, said}
+use Rattle.xp_script.specs.Command.{said}
 use Rattle.xp_script.specs.NamedText.{NamedText}
 use Rattle.xp_exchange.specs.declared.fault.ReplayFault.{ReplayFault}
-use Rattle.xp_exchange.specs.declared.fault.ReplayFault.TheVariants.{Script, Journal, Memory, Read, Write, Reload}
-use Rattle.xp_exchange.specs.Play.{ActsOn, Brings, PlayState, PlaysAll, Plays, RefusesTables, opened, start}
+use Rattle.xp_exchange.specs.declared.fault.ReplayFault.TheVariants.{Script, Journal, Memory, Read, Write, Lay, Reload}
+use Rattle.xp_exchange.specs.Play.{ActsOn, AsksFor, Brings, HasNoPlaces, IsRefusedText, PlayState, PlaysAll, Plays, force_in, opened, start}
 use Rattle.xp_transcript.specs.declared.form.Form.{Form}
 use Rattle.xp_transcript.specs.declared.teller.Teller.{Teller}
 use Rattle.xp_transcript.specs.Transcript.{ToldEntry, entries_of, first_teller, front_of, teller_behind, transcript}
@@ -36,8 +36,8 @@ module _ {A : Type 0} where
   pub record IsTold (old : Exchange A) (teller : Teller) (new : Exchange A) (behind : Teller) (text : List ℕ) : Type 0 where
     pub told : List (ToldEntry A)
     pub history : new.history ≡ old.history ++ entries_of told
-    pub text_is : text ≡ transcript old.subs teller told
-    pub behind_is : behind ≡ teller_behind old.subs teller told
+    pub text_is : text ≡ transcript (force_in old) teller told
+    pub behind_is : behind ≡ teller_behind (force_in old) teller told
 
   -- The exchange acts on the first of these events: none, some or all. The text is a front of what is told of their entries.
   pub record IsToldInPart (old : Exchange A) (teller : Teller) (events : List (Event A)) (text : List ℕ) : Type 0 where
@@ -55,20 +55,24 @@ module _ {A : Type 0} where
   -- The line is read, and its events are told in part.
   pub record TellsInPart (at : TellState A) (line own : List ℕ) : Type 0 where
     pub command : Command A
-    pub says : said at.play.exchange.subs at.play.named line ≡ Some command
+    pub says : said (force_in at.play.exchange) at.play.named line ≡ Some command
     pub events : List (Event A)
     pub after : List (List ℕ)
-    pub plays : Plays at.play command events after
+    pub brought : Option Tables
+    pub plays : Plays at.play command events after brought
     pub part : IsToldInPart at.play.exchange at.teller events own
-    pub brings : Brings at.play.named (reload_of command) part.acts.entries
+    pub brings : Brings brought part.acts.entries
 
   -- why it stops at the line of this number, and what is told of that line
   abbrev pub StopsAt : TellState A → ℕ → List ℕ → ReplayFault → List ℕ → Type 0
-  StopsAt at number line (Script found) own = (found ≡ number) × (said {A = A} at.play.exchange.subs at.play.named line ≡ None) × (own ≡ [])
+  StopsAt at number line (Script found) own = (found ≡ number) × (said {A = A} (force_in at.play.exchange) at.play.named line ≡ None) × (own ≡ [])
   StopsAt at number line Memory own = (own ≡ []) ⊎ TellsInPart at line own
   StopsAt at number line Journal own = TellsInPart at line own
   StopsAt at number line Write own = TellsInPart at line own
-  StopsAt at number line (Reload found tables fault) own = (found ≡ number) × RefusesTables at.play line tables fault × (own ≡ [])
+  StopsAt at number line (Lay found tables) own =
+      (found ≡ number) × AsksFor at.play line tables × HasNoPlaces at.play.exchange at.play.named tables × (own ≡ [])
+  StopsAt at number line (Reload found tables fault) own =
+      (found ≡ number) × AsksFor at.play line tables × IsRefusedText at.play.exchange at.play.named tables fault × (own ≡ [])
   StopsAt at number line Read own = ⊥
 
   -- All lines of the script are played and told.
@@ -109,6 +113,7 @@ IsUntold form Memory text = text ≡ []
 IsUntold form Write text = (count : ℕ) × (text ≡ take count (front_of form))
 IsUntold form (Script number) text = ⊥
 IsUntold form Journal text = ⊥
+IsUntold form (Lay number tables) text = ⊥
 IsUntold form (Reload number tables fault) text = ⊥
 
 module _ {A : Type 0} where

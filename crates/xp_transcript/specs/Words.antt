@@ -33,9 +33,21 @@ heading_words moment name FromDce = decimal moment ++ codes "  exchange " ++ arr
 abbrev pub channel_words : ℕ → List ℕ
 channel_words identifier = codes "channel " ++ decimal identifier ++ codes ": "
 
--- `12  tables day are in force`: a reload is no line's
-abbrev pub reload_words : ℕ → List ℕ → List ℕ
-reload_words moment name = decimal moment ++ codes "  tables " ++ name ++ codes " are in force\n"
+-- `2 lines new`
+abbrev pub counted_lines : ℕ → List ℕ → List ℕ
+counted_lines count what = decimal count ++ (if count == 1 then codes " line " else codes " lines ") ++ what
+
+-- `: 2 lines new, 1 line gone`, without a part that is 0
+abbrev pub change_words : ℕ → ℕ → List ℕ
+change_words new gone =
+    if new == 0 then (if gone == 0 then [] else codes ": " ++ counted_lines gone (codes "gone"))
+    else if gone == 0 then codes ": " ++ counted_lines new (codes "new")
+    else codes ": " ++ counted_lines new (codes "new") ++ codes ", " ++ counted_lines gone (codes "gone")
+
+-- `12  tables day are in force: 2 lines new, 1 line gone`: a reload is no line's
+abbrev pub reload_words : ℕ → List ℕ → ℕ → ℕ → List ℕ
+reload_words moment name new gone =
+    decimal moment ++ codes "  tables " ++ name ++ codes " are in force" ++ change_words new gone ++ codes "\n"
 
 module _ {A : Type 0} where
   -- what happened on a line
@@ -45,20 +57,12 @@ module _ {A : Type 0} where
   what_words (Frame identifier packet) = channel_words identifier ++ packet_text FromDte packet
   what_words (WrongFrame wrong) = codes "frame without a packet, diagnostic " ++ diagnostic_text (diagnostic_of wrong)
   what_words Expire = codes "no answer in time (T11)"
-  what_words Stall = codes "takes its packets too slowly"
+  what_words Stall = codes "given up"
   what_words Reload = codes "other subscriptions are in force"
 
   -- what a line hands in
   abbrev pub line_words : Tables → Event A → List ℕ
   line_words tables event = heading_words event.moment (name_of tables event.line) FromDte ++ what_words event.what ++ codes "\n"
-
-  -- that, or that the tables of this name are in force
-  abbrev pub told_words : Tables → List ℕ → Event A → What A → List ℕ
-  told_words tables name event Reload = reload_words event.moment name
-  told_words tables name event what = line_words tables event
-
-  abbrev pub event_words : Tables → List ℕ → Event A → List ℕ
-  event_words tables name event = told_words tables name event event.what
 
   -- what is put out to a line
   abbrev pub put_words : Put A → List ℕ
@@ -109,8 +113,8 @@ record_words tables ended =
 
 module _ {A : Type 0} where
   -- the event, then the packets that it puts out, then its records
-  abbrev pub entry_words : Tables → List ℕ → Entry A → List ℕ
-  entry_words tables name entry =
-      event_words tables name entry.event
+  abbrev pub entry_words : Tables → Entry A → List ℕ
+  entry_words tables entry =
+      line_words tables entry.event
       ++ flat_map (output_words tables entry.event.moment) entry.outputs
       ++ flat_map (record_words tables) entry.records.items

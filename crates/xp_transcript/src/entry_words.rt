@@ -3,7 +3,7 @@
 ghost use Rattle.std.specs.Prelude.{◌≡◌, ◌++◌, flat_map, OnOk};
 ghost use Rattle.xp_transcript.specs.Words.{entry_words, output_words, record_words};
 
-use crate::event_words::event_words;
+use crate::event_words::line_words;
 use crate::output_words::output_words;
 use crate::record_words::record_words;
 use std::alloc::{AllocError, Global};
@@ -11,17 +11,17 @@ use xp_charge::Record;
 use xp_step::{Entry, Output};
 use xp_subs::Subs;
 
-/// Adds the words of an entry, which brings the subscriptions of this name if it brings some: a line for its event, one for each packet that it puts out, and one for each record.
+/// Adds the words of an entry that brings no subscriptions: a line for its event, one for each packet that it puts out, and one for each
+/// record.
 pub(crate) fn push_entry_words(
     alloc: Global,
     subs: &Subs,
-    name: &str,
     entry: &Entry,
     text: &mut Vec<u8>,
 ) -> Result<(), AllocError>
-    ensures { OnOk result (text.new.items ≡ text.old.items ++ entry_words subs.now name.now entry.now) }
+    ensures { OnOk result (text.new.items ≡ text.old.items ++ entry_words subs.now entry.now) }
 {
-    let words = event_words(alloc, subs, name, &entry.event)?;
+    let words = line_words(alloc, subs, &entry.event)?;
     text.extend_from_slice(words.as_bytes())?;
     let moment = entry.event.moment;
     push_output_words(alloc, subs, moment, entry.outputs.as_slice(), text)?;

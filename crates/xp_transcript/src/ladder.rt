@@ -1,17 +1,20 @@
 //! Entries of the history as rows of a ladder diagram.
 
 ghost use Rattle.std.specs.Prelude.{◌≡◌, ◌++◌, IfOk, OnOk, option_map, replicate, Some, string_bytes};
-ghost use Rattle.xp_transcript.specs.Places.{alone, pair_of};
-ghost use Rattle.xp_transcript.specs.Rows.{after_entry, after_message, after_outputs, entry_rows, heading_rows, message_rows, name_at, named_heading, output_rows, reload_row, reload_rows};
+ghost use Rattle.xp_subs.specs.Tables.{line_count};
+ghost use Rattle.xp_transcript.specs.Changed.{gone_lines, new_lines};
+ghost use Rattle.xp_transcript.specs.Places.{alone, pair_of, renewed_pair};
+ghost use Rattle.xp_transcript.specs.Rows.{after_entry, after_message, after_outputs, entry_rows, heading_rows, message_rows, name_at, named_heading, output_rows, reload_row, renewed_ladder};
 
+use crate::changed::Change;
 use crate::names::name_of;
 use crate::place::Pair;
 use crate::places::Places;
+use crate::reload::{Reload, reload_row};
 use crate::short_words::{few_put_words, few_words};
 use std::alloc::{AllocError, Global};
-use std::fmt;
 use xp_ladder::{Heading, Rung};
-use xp_step::{Entry, Output, What};
+use xp_step::{Entry, Output};
 use xp_subs::{LineNo, Subs};
 use xp_words::Direction;
 
@@ -42,22 +45,19 @@ impl Ladder {
         })
     }
 
-    /// Adds the rows of an entry, which brings the subscriptions of this name if it brings some: its event, then the packets
-    /// that it puts out.
+    /// Adds the rows of an entry that brings no subscriptions: its event, then the packets that it puts out.
     pub(crate) fn push_entry(
         &mut self,
         alloc: Global,
         subs: &Subs,
-        name: &str,
         entry: &Entry,
         text: &mut Vec<u8>,
     ) -> Result<(), AllocError>
-        ensures rows { OnOk result (text.new.items ≡ text.old.items ++ entry_rows subs.now self.old name.now entry.now) }
+        ensures rows { OnOk result (text.new.items ≡ text.old.items ++ entry_rows subs.now self.old entry.now) }
         ensures after { OnOk result (self.new ≡ after_entry self.old entry.now) }
     {
         self.places.place(entry);
         let moment = entry.event.moment;
-        push_reload(alloc, moment, name, &entry.event.what, text)?;
         let message = Message {
             moment,
             line: entry.event.line,
@@ -66,6 +66,30 @@ impl Ladder {
         let words = few_words(alloc, &entry.event.what)?;
         self.push_message(alloc, subs, message, words, text)?;
         self.push_outputs(alloc, subs, moment, entry.outputs.as_slice(), text)
+    }
+
+    /// Adds the row of a reload. Then no line stands where another one stood.
+    pub(crate) fn push_reload(
+        &mut self,
+        alloc: Global,
+        reload: Reload<'_>,
+        text: &mut Vec<u8>,
+    ) -> Result<(), AllocError>
+        requires { line_count reload.next.now ≡ line_count reload.old.now }
+        ensures row { OnOk result (text.new.items ≡ text.old.items ++ reload_row reload.entry.moment reload.entry.name.now (new_lines reload.entry.old.now reload.entry.next.now) (gone_lines reload.entry.old.now reload.entry.next.now)) }
+        ensures after { OnOk result (self.new ≡ renewed_ladder reload.entry.old.now reload.entry.next.now self.old) }
+    {
+        let Reload {
+            moment,
+            name,
+            old,
+            next,
+        } = reload;
+        let row = reload_row(alloc, moment, name, Change::between(old, next))?;
+        text.extend_from_slice(row.as_bytes())?;
+        self.places.renew(old, next);
+        self.headed = renewed_heading(old, next, self.headed);
+        Ok(())
     }
 
     /// Adds the rows of what is put out at this moment.
@@ -124,46 +148,13 @@ impl Ladder {
     }
 }
 
-/// That the subscriptions of this name are in force.
-#[derive(Clone, Copy)]
-struct ReloadRow<'a> {
-    moment: u64,
-    name: &'a str,
-}
-
-impl fmt::Display for ReloadRow<'_> {
-    ghost use Rattle.std.specs.Prelude.{Some};
-
-    ghost output = { λ row. Some (reload_row row.moment row.name.now) };
-
-    fn fmt<W: fmt::Write>(&self, f: &mut fmt::Formatter<W>) -> fmt::Result {
-        let moment = self.moment;
-        let name = self.name;
-        write!(f, "{moment:>10}  tables {name} are in force\n")
-    }
-}
-
-/// Adds the row of a reload that brings the subscriptions of this name, and none for what happens on a line.
-fn push_reload(
-    alloc: Global,
-    moment: u64,
-    name: &str,
-    what: &What,
-    text: &mut Vec<u8>,
-) -> Result<(), AllocError>
-    ensures { OnOk result (text.new.items ≡ text.old.items ++ reload_rows moment name.now what.now) }
+/// The lines of a heading that stay.
+fn renewed_heading(old: &Subs, next: &Subs, headed: Option<Pair>) -> Option<Pair>
+    ensures { result ≡ option_map (renewed_pair old.now next.now) headed }
 {
-    match what {
-        What::Reload => {
-            let row = ReloadRow { moment, name }.to_string(alloc)?;
-            text.extend_from_slice(row.as_bytes())
-        }
-        What::Up
-        | What::Down
-        | What::Frame { .. }
-        | What::WrongFrame(_)
-        | What::Expire
-        | What::Stall => Ok(()),
+    match headed {
+        Some(pair) => Some(pair.renewed(old, next)),
+        None => None,
     }
 }
 

@@ -1,6 +1,7 @@
 //! A script replayed for people: its history in words, as a ladder diagram, or as a capture file.
 #![tactic(auto)]
 
+mod changed;
 mod entry_words;
 mod event_words;
 mod form;
@@ -13,6 +14,7 @@ mod output_words;
 mod place;
 mod places;
 mod record_words;
+mod reload;
 mod segments;
 mod short_words;
 mod teller;

@@ -31,7 +31,7 @@ pub(crate) fn open<'s, 'n>(
     Ok(Transcript::new(alloc, player, teller))
 }
 
-/// How many lines there are, at most 512.
+/// How many lines there are, at most 4,096.
 fn count_lines(subs: &Subs) -> u16
     ensures { result ≡ line_count subs.now }
 {

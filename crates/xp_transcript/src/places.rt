@@ -1,7 +1,8 @@
 //! Where the lines stand in a ladder diagram.
 
 ghost use Rattle.std.specs.Prelude.{◌≡◌, IfOk, replicate, slice_set};
-ghost use Rattle.xp_transcript.specs.Places.{alone, place_of, placed_by, placed_by_outputs, placed_by_put, placed_by_what};
+ghost use Rattle.xp_subs.specs.Tables.{line_count};
+ghost use Rattle.xp_transcript.specs.Places.{alone, place_of, placed_by, placed_by_outputs, placed_by_put, placed_by_what, renewed_places};
 
 use crate::place::Place;
 use std::alloc::{AllocError, Global};
@@ -9,7 +10,7 @@ use std::marker::Model;
 use xp_ladder::Side;
 use xp_packets::Packet;
 use xp_step::{Entry, Output, Put, What};
-use xp_subs::LineNo;
+use xp_subs::{LineNo, Subs};
 
 /// Where each line stands.
 #[derive(Drop)]
@@ -54,6 +55,17 @@ impl Places {
         let line = entry.event.line;
         self.place_by_what(line, &entry.event.what);
         self.place_by_outputs(line, entry.outputs.as_slice());
+    }
+
+    /// Places the lines as the next subscriptions come into force.
+    pub(crate) fn renew(&mut self, old: &Subs, next: &Subs)
+        ensures { self.new ≡ renewed_places old.now next.now self.old (line_count old.now) }
+    {
+        for number in 0..old.counts().lines {
+            let line = number as LineNo;
+            let place = self.of(line).renewed(old, next, line);
+            self.set(line, place);
+        }
     }
 
     /// Places a line that calls.

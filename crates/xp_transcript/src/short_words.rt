@@ -23,7 +23,7 @@ pub(crate) fn few_words(alloc: Global, what: &What) -> Result<Option<String>, Al
             format!(in alloc; "no packet, diagnostic {diagnostic}")?
         }
         What::Expire => String::from_str(alloc, "no answer in time")?,
-        What::Stall => String::from_str(alloc, "too slow")?,
+        What::Stall => String::from_str(alloc, "given up")?,
     };
     Ok(Some(words))
 }

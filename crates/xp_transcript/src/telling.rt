@@ -27,8 +27,8 @@ use xp_subs::Subs;
 /// What is told of the lines before the fault is written whole, and nothing of those behind it. Of the line itself:
 ///
 /// - `Script`, with the number of the line: it is not a line of a script, and nothing is told of it.
-/// - `Reload`, with the number of the line: the subscriptions that it names cannot come into force now, and nothing is told of
-///   it.
+/// - `Lay` or `Reload`, with the number of the line: the subscriptions that it names cannot come into force now, and nothing is
+///   told of it.
 /// - `Journal`, `Memory`, `Write`: what is told of its first events is written, or a front of that. They may be none.
 ///
 /// `Read`: the reader failed, and nothing is written. Without memory to begin nothing is written either.

@@ -2,21 +2,22 @@
 
 ghost use Rattle.std.specs.Prelude.{◌≡◌, ◌<◌, ℕ, List, [], ◌∷◌, All, length};
 ghost use Rattle.std.specs.Io.KnownBytes.{Appends};
-ghost use Rattle.xp_core.specs.Lines.{HasLines};
 ghost use Rattle.xp_exchange.specs.FrameEvents.{Fits};
+ghost use Rattle.xp_exchange.specs.Play.{MayCome};
 ghost use Rattle.xp_script.specs.NamedText.{name_at};
 ghost use Rattle.xp_subs.specs.Tables.{line_count};
 ghost use Rattle.xp_transcript.specs.Telling.{TellsScript};
-ghost use Rattle.xp_transcript.specs.steps.Telling.{IsFor, TellsEntry, TellsEvents, TellsLine};
+ghost use Rattle.xp_transcript.specs.steps.Telling.{IsFor, TellsEvents, TellsLine, TellsNext};
 
 use crate::lines::cut_line;
+use crate::reload::Reload;
 use crate::teller::Teller;
 use std::alloc::Global;
 use std::collections::VecDeque;
 use std::io::Write;
 use std::marker::Model;
 use std::mem;
-use xp_exchange::{Reloaded, ReplayFault, ScriptPlayer, write_out};
+use xp_exchange::{NextTables, ReplayFault, ScriptPlayer, write_out};
 use xp_step::Event;
 
 /// An exchange to which the lines of a script are played, and the telling of what comes of them.
@@ -91,13 +92,13 @@ impl<'s, 'n> Transcript<'s, 'n> {
         ensures { (text : List ℕ) × Appends (W.contents writer.old) (W.contents writer.new) text × TellsLine self.old number line.now result self.new text }
     {
         let mut events = mem::replace(&mut self.events, VecDeque::new(self.alloc));
-        match self.player.read_line(number, line, &mut events)? {
-            Some(reloaded) => return self.tell_reload(&reloaded, writer),
-            None => {}
-        }
+        let next = self.player.read_line(number, line, &mut events)?;
         self.tell_events(&mut events, writer)?;
         self.events = events;
-        Ok(())
+        let Some(next) = next else {
+            return Ok(());
+        };
+        self.tell_next(next, writer)
     }
 
     /// Takes the events off the queue, acts on them in turn, and tells the entry of each before the next.
@@ -122,28 +123,27 @@ impl<'s, 'n> Transcript<'s, 'n> {
     {
         let entry = self.player.act_on(event)?;
         self.text.clear();
-        let subs = self.player.subs();
+        let subs = self.player.in_force();
         self.teller
-            .push_entry(self.alloc, subs, "", &entry, &mut self.text)?;
+            .push_entry(self.alloc, subs, &entry, &mut self.text)?;
         write_out(writer, &self.text)
     }
 
-    /// Tells the entry of a reload.
-    fn tell_reload<W: Write>(
-        &mut self,
-        reloaded: &Reloaded,
-        writer: &mut W,
-    ) -> Result<(), ReplayFault>
-        requires known { reloaded.now.number < length self.old.play.named }
-        requires line { reloaded.now.entry.event.line < line_count self.old.play.exchange.subs }
-        requires lines { HasLines (line_count self.old.play.exchange.subs) reloaded.now.entry }
-        ensures { (text : List ℕ) × Appends (W.contents writer.old) (W.contents writer.new) text × TellsEntry self.old (name_at self.old.play.named reloaded.now.number) reloaded.now.entry result self.new text }
+    /// Brings subscriptions into force, and tells that.
+    fn tell_next<W: Write>(&mut self, next: NextTables, writer: &mut W) -> Result<(), ReplayFault>
+        requires known { next.number < length self.old.play.named }
+        requires may { MayCome self.old.play.exchange next.subs }
+        ensures { (text : List ℕ) × Appends (W.contents writer.old) (W.contents writer.new) text × TellsNext self.old next (name_at self.old.play.named next.number) result self.new text }
     {
         self.text.clear();
-        let subs = self.player.subs();
-        let name = self.player.name_of_tables(reloaded.number);
-        self.teller
-            .push_entry(self.alloc, subs, name, &reloaded.entry, &mut self.text)?;
+        let reload = Reload {
+            moment: self.player.moment(),
+            name: self.player.name_of_tables(next.number),
+            old: self.player.in_force(),
+            next: &next.subs,
+        };
+        self.teller.push_reload(self.alloc, reload, &mut self.text)?;
+        self.player.bring(next);
         write_out(writer, &self.text)
     }
 }

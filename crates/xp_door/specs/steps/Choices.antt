@@ -13,8 +13,8 @@ use Rattle.xp_door.specs.declared.choosing.Candidate.{Candidate}
 use Rattle.xp_door.specs.declared.choosing.Choice.{Choice}
 use Rattle.xp_door.specs.declared.choosing.Choice.TheVariants.{Line, NoCaller, NoFreeLine}
 use Rattle.xp_door.specs.declared.opening.Opening.TheVariants.{Packet}
+use Rattle.xp_door.specs.declared.routed_line.RoutedLine.{RoutedLine}
 use Rattle.xp_door.specs.declared.router_call.RouterCall.{RouterCall}
-use Rattle.xp_door.specs.declared.router_line.RouterLine.{RouterLine}
 
 -- where it is said to call, these octets open with a frame, and the call is that of its packet
 abbrev pub IsStanding : IpAddr → List ℕ → Standing → Type 0
@@ -30,5 +30,5 @@ IsGiven peer None candidates NoFreeLine = IsFirstFree peer candidates None
 IsGiven peer None candidates NoCaller = ⊥
 
 -- a line as a choice sees it, before it is known whether it is free
-abbrev pub candidate_of : RouterLine → Candidate
+abbrev pub candidate_of : RoutedLine → Candidate
 candidate_of line = record { router = socket_ip line.router; caller = line.caller; is_free = false }

@@ -28,6 +28,7 @@ reason_text (reasons.Version version) = codes "no frame of RFC 1613 (version " +
 reason_text (reasons.Length length) = codes "no frame of RFC 1613 (length " ++ decimal length ++ codes " found)"
 reason_text reasons.Replaced = codes "replaced by another connection"
 reason_text reasons.GivenUp = codes "given up by the exchange"
+reason_text reasons.Reload = codes "ended by a reload"
 
 -- the digit that a half-octet is, or a question mark
 abbrev pub glyph : ℕ → ℕ

@@ -9,9 +9,11 @@ use Rattle.xp_step.specs.Exchange.{Exchange}
 use Rattle.xp_core.specs.declared.fault.StepFault.{StepFault}
 use Rattle.xp_core.specs.declared.fault.StepFault.TheVariants as steps
 use Rattle.xp_exchange.specs.declared.fault.ReplayFault.{ReplayFault}
-use Rattle.xp_exchange.specs.declared.fault.ReplayFault.TheVariants.{Script, Journal, Memory, Read, Write, Reload}
+use Rattle.xp_exchange.specs.declared.fault.ReplayFault.TheVariants.{Script, Journal, Memory, Read, Write, Lay, Reload}
 use Rattle.xp_script.specs.NamedText.{NamedText}
-use Rattle.xp_exchange.specs.Play.{ActsOn, IsRefusedText}
+use Rattle.xp_subs.specs.Tables.{Tables}
+use Rattle.xp_exchange.specs.declared.next_tables.NextTables.{NextTables}
+use Rattle.xp_exchange.specs.Play.{ActsOn, HasNoPlaces, IsRefusedText, Lays, MayCome, stalls_at}
 use Rattle.xp_exchange.specs.WholeScript.{IsWritten, IsWrittenInPart, FindsNoMemory}
 
 -- the text is written, or, if the writer fails, a prefix of it, or, if there is no memory, nothing
@@ -44,13 +46,32 @@ module _ {A : Type 0} where
   reason (steps.JournalFull event) = Journal
   reason (steps.Memory event) = Memory
 
+  -- The tables of this number may come into force behind these events, which give the lines up that go at this moment.
+  pub record IsNext (exchange : Exchange A) (named : List NamedText) (number moment : ℕ) (events : List (Event A)) (next : NextTables) : Type 0 where
+    pub number_is : next.number ≡ number
+    pub going : List ℕ
+    pub lays : Lays exchange named number next.subs going
+    pub gives_up : events ≡ stalls_at moment going
+    pub comes : (after : Exchange A) → ActsOn exchange events after → MayCome after next.subs
+
+  -- The history has too few places for the lines that go, and for the reload that brings the tables of this number.
+  pub record LacksPlacesFor (exchange : Exchange A) (named : List NamedText) (number : ℕ) : Type 0 where
+    pub laid : Tables
+    pub going : List ℕ
+    pub lays : Lays exchange named number laid going
+    pub full : exchange.subs.journal < length exchange.history + (length going + 4)
+
   -- why the tables of this number do not come into force, for the line of this number
   abbrev pub RefusesReload : Exchange A → List NamedText → ℕ → ℕ → ReplayFault → Type 0
-  RefusesReload exchange named tables number Journal = exchange.subs.journal < length exchange.history + 4
+  RefusesReload exchange named tables number Journal = LacksPlacesFor exchange named tables
   RefusesReload exchange named tables number Memory = Unit {0}
+  RefusesReload exchange named tables number (Lay found which) =
+      (found ≡ number) × (which ≡ tables) × HasNoPlaces exchange named which
   RefusesReload exchange named tables number (Reload found which fault) =
       (found ≡ number) × (which ≡ tables) × IsRefusedText exchange named which fault
-  RefusesReload exchange named tables number fault = ⊥
+  RefusesReload exchange named tables number (Script found) = ⊥
+  RefusesReload exchange named tables number Read = ⊥
+  RefusesReload exchange named tables number Write = ⊥
 
   -- The first of the events are acted on. They may be none, and they may be all.
   pub record ActsOnFirst (old : Exchange A) (events : List (Event A)) (now : Exchange A) : Type 0 where
@@ -68,6 +89,7 @@ module _ {A : Type 0} where
   Breaks old events Write new text = ActsOnFirst old events new × IsWrittenInPart old new text
   Breaks old events (Script number) new text = ⊥
   Breaks old events Read new text = ⊥
+  Breaks old events (Lay number tables) new text = ⊥
   Breaks old events (Reload number tables fault) new text = ⊥
 
   -- what acting on events in turn returns, the exchange then, and what is written

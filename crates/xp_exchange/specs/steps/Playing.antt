@@ -4,8 +4,8 @@ use Rattle.xp_script.specs.Command.{said}
 use Rattle.xp_script.specs.NamedText.{NamedText}
 use Rattle.xp_subs.specs.Tables.{Tables}
 use Rattle.xp_exchange.specs.declared.fault.ReplayFault.{ReplayFault}
-use Rattle.xp_exchange.specs.declared.fault.ReplayFault.TheVariants.{Script, Journal, Memory, Read, Write, Reload}
-use Rattle.xp_exchange.specs.Play.{PlayState, BeginsLine, PlaysLine, RefusesTables}
+use Rattle.xp_exchange.specs.declared.fault.ReplayFault.TheVariants.{Script, Journal, Memory, Read, Write, Lay, Reload}
+use Rattle.xp_exchange.specs.Play.{AsksFor, BeginsLine, HasNoPlaces, IsRefusedText, LacksPlaces, PlayState, PlaysLine, force_in}
 use Rattle.xp_exchange.specs.WholeScript.{IsWritten, IsWrittenInPart, FindsNoMemory, StopsBeforeLine}
 
 -- why the line of this number asks for nothing
@@ -15,6 +15,7 @@ RefusesCommand A tables named number line Memory = Unit {0}
 RefusesCommand A tables named number line Journal = ⊥
 RefusesCommand A tables named number line Read = ⊥
 RefusesCommand A tables named number line Write = ⊥
+RefusesCommand A tables named number line (Lay found which) = ⊥
 RefusesCommand A tables named number line (Reload found which fault) = ⊥
 
 module _ {A : Type 0} where
@@ -22,15 +23,17 @@ module _ {A : Type 0} where
   abbrev pub Played : PlayState A → ℕ → List ℕ → Result (Unit {0}) ReplayFault → PlayState A → List ℕ → Type 0
   Played old number line (Ok done) new text = PlaysLine old line new × IsWritten old.exchange new.exchange text
   Played old number line (Err (Script found)) new text =
-      (found ≡ number) × (said {A = A} old.exchange.subs old.named line ≡ None) × StopsBeforeLine old new.exchange text
+      (found ≡ number) × (said {A = A} (force_in old.exchange) old.named line ≡ None) × StopsBeforeLine old new.exchange text
   Played old number line (Err Journal) new text =
       (begun : BeginsLine old line new.exchange) × IsWritten old.exchange new.exchange text
-      × (0 < length begun.later) × (new.exchange.subs.journal < length new.exchange.history + 4)
+      × LacksPlaces begun.brought new.exchange begun.later
   Played old number line (Err Memory) new text =
       StopsBeforeLine old new.exchange text
       ⊎ ((begun : BeginsLine old line new.exchange) × FindsNoMemory old.exchange begun.later new.exchange text)
   Played old number line (Err Write) new text =
       BeginsLine old line new.exchange × IsWrittenInPart old.exchange new.exchange text
+  Played old number line (Err (Lay found tables)) new text =
+      (found ≡ number) × AsksFor old line tables × HasNoPlaces old.exchange old.named tables × StopsBeforeLine old new.exchange text
   Played old number line (Err (Reload found tables fault)) new text =
-      (found ≡ number) × RefusesTables old line tables fault × StopsBeforeLine old new.exchange text
+      (found ≡ number) × AsksFor old line tables × IsRefusedText old.exchange old.named tables fault × StopsBeforeLine old new.exchange text
   Played old number line (Err Read) new text = ⊥

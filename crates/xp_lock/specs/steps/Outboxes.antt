@@ -8,7 +8,6 @@ use Rattle.xp_step.specs.declared.output.Output.{Output}
 use Rattle.xp_machine.specs.Channel.{is_off}
 use Rattle.xp_step.specs.Worlds.{world_after}
 use Rattle.xp_machine.specs.World.{state_at}
-use Rattle.xp_lock.specs.Histories.{AreForced}
 use Rattle.xp_lock.specs.Outgoing.{put_out_to, to_line}
 use Rattle.xp_lock.specs.Outboxes.{HaveCapacity, PLACES_KEPT, outbox_at}
 
@@ -39,11 +38,10 @@ module _ {A : Type 0} where
     pub each : (line : ℕ) → IsAlike (outbox_at outboxes line) (outbox_at after line)
 
   -- Each line has an outbox with 64 places, into which all was put that the history puts out to the line. A line in service
-  -- has 24 free places. The history is no longer than the journal may be, and each of its stalls was forced by an event
+  -- has 24 free places. The history is no longer than the journal may be
   pub record OutboxesMatch (subs : Tables) (history : List (Entry A)) (outboxes : List (Putting (Outgoing A))) : Type 0 where
     pub count : length outboxes ≡ line_count subs
     pub capacities : HaveCapacity (line_count subs) outboxes
     pub put : (line : ℕ) → line < length outboxes → (outbox_at outboxes line).put ≡ put_out_to line history
     pub places : (line : ℕ) → is_off (state_at (world_after subs history) line) ≡ false → PLACES_KEPT ≤ (outbox_at outboxes line).free
     pub few : length history ≤ subs.journal
-    pub forced : AreForced subs history

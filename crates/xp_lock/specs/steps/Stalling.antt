@@ -9,7 +9,6 @@ use Rattle.xp_step.specs.Exchange.{Exchange, world_of}
 use Rattle.xp_machine.specs.World.{state_at}
 use Rattle.xp_lock.specs.Outboxes.{PLACES_KEPT, outbox_at}
 use Rattle.xp_lock.specs.steps.Outboxes.{AreAlike, OutboxesMatch}
-use Rattle.xp_seats.specs.Handed.{is_stall}
 use Rattle.xp_lock.specs.declared.receipt.Receipt.{Receipt}
 use Rattle.xp_lock.specs.CoreWithOutboxes.{HasPlaces, CoreWithOutboxes, Takes, is_up}
 
@@ -23,7 +22,6 @@ module _ {A : Type 0} where
     pub running : core_with_outboxes.halted ≡ false
     pub kept : OutboxesMatch core_with_outboxes.subs core_with_outboxes.history core_with_outboxes.outboxes
     pub places : HasPlaces core_with_outboxes
-    pub kind : is_stall event.what ≡ false
     pub room : is_up event.what ≡ true → PLACES_KEPT ≤ (outbox_at core_with_outboxes.outboxes event.line).free
 
   -- The event was taken, with these outboxes, or such as knew of fewer free places before the exchange looked at them

@@ -2,7 +2,7 @@
 use Rattle.std.specs.Prelude.{ℕ, List, Bool, false, ◌&&◌}
 use Rattle.std.specs.List.{list_any}
 use Rattle.xp_file.specs.declared.entry.Access.{Access}
-use Rattle.xp_file.specs.declared.entry.Access.TheVariants.{Port, Router}
+use Rattle.xp_file.specs.declared.entry.Access.TheVariants.{Port, Router, Spare}
 use Rattle.xp_file.specs.declared.entry.LineEntry.{LineEntry}
 use Rattle.xp_file.specs.Entries.{StationData, is_behind}
 
@@ -14,6 +14,7 @@ has_line_behind lines router = list_any (λ (line : LineEntry). is_behind router
 abbrev pub has_line_beside : List LineEntry → Access → Bool
 has_line_beside lines (Port port) = false
 has_line_beside lines (Router router) = has_line_behind lines router.address
+has_line_beside lines Spare = false
 
 -- a line of the one list and a line of the other are behind one router
 unfoldable pub share_router : List LineEntry → List LineEntry → Bool

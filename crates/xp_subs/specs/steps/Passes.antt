@@ -3,7 +3,7 @@ use Rattle.std.specs.Prelude.{ℕ, ◌+◌, List, [], ◌∷◌, ◌++◌, Optio
 use Rattle.std.specs.List.{list_any}
 use Rattle.std.specs.Map.{lookup}
 use Rattle.xp_file.specs.declared.entry.Access.{Access}
-use Rattle.xp_file.specs.declared.entry.Access.TheVariants.{Port, Router}
+use Rattle.xp_file.specs.declared.entry.Access.TheVariants.{Port, Router, Spare}
 use Rattle.xp_file.specs.declared.entry.LineEntry.{LineEntry}
 use Rattle.xp_file.specs.declared.fault.SubscriptionFault.{SubscriptionFault}
 use Rattle.xp_file.specs.declared.fault.SubscriptionFault.TheVariants as faults
@@ -41,6 +41,7 @@ with_port port used =
 abbrev pub with_access : Access → Used → Result Used SubscriptionFault
 with_access (Port port) used = with_port port used
 with_access (Router router) used = Ok used
+with_access Spare used = Ok used
 
 -- the values of the lines of a station; the lines are numbered from `line` on
 abbrev pub with_names : ℕ → List LineEntry → Used → Result Used SubscriptionFault

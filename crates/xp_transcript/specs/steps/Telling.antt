@@ -3,8 +3,9 @@ use Rattle.std.specs.Prelude.{◌≡◌, ℕ, List, [], Result, Ok, Err, length,
 use Rattle.xp_step.specs.declared.entry.Entry.{Entry}
 use Rattle.xp_step.specs.declared.event.Event.{Event}
 use Rattle.xp_exchange.specs.declared.fault.ReplayFault.{ReplayFault}
-use Rattle.xp_exchange.specs.declared.fault.ReplayFault.TheVariants.{Script, Journal, Memory, Read, Write, Reload}
-use Rattle.xp_exchange.specs.Play.{ActsOn, PlaysLine}
+use Rattle.xp_exchange.specs.declared.fault.ReplayFault.TheVariants.{Script, Journal, Memory, Read, Write, Lay, Reload}
+use Rattle.xp_exchange.specs.Play.{ActsOn, ComesIntoForce, PlaysLine, force_in}
+use Rattle.xp_exchange.specs.declared.next_tables.NextTables.{NextTables}
 use Rattle.xp_transcript.specs.Telling.{IsTold, IsToldInPart, IsUntold, StopsAt, TellState}
 use Rattle.xp_transcript.specs.Transcript.{entry_told, front_of, teller_after}
 use Rattle.xp_transcript.specs.declared.form.Form.{Form}
@@ -24,6 +25,7 @@ IsUnread Memory = Unit {0}
 IsUnread Write = ⊥
 IsUnread Journal = ⊥
 IsUnread (Script number) = ⊥
+IsUnread (Lay number tables) = ⊥
 IsUnread (Reload number tables fault) = ⊥
 
 -- what stands in front of all entries is written
@@ -43,18 +45,22 @@ module _ {A : Type 0} where
   TellsEvents old events (Ok done) new text = TellsEach old events new text
   TellsEvents old events (Err (Script number)) new text = ⊥
   TellsEvents old events (Err Read) new text = ⊥
+  TellsEvents old events (Err (Lay number tables)) new text = ⊥
   TellsEvents old events (Err (Reload number tables fault)) new text = ⊥
   TellsEvents old events (Err fault) new text = IsToldInPart old.play.exchange old.teller events text
 
-  -- what telling an entry under this name answers, and what is told of it
-  abbrev pub TellsEntry : TellState A → List ℕ → Entry A → Result (Unit {0}) ReplayFault → TellState A → List ℕ → Type 0
-  TellsEntry old name entry (Ok done) new text =
-      (text ≡ entry_told old.play.exchange.subs old.teller name entry) × (new.play ≡ old.play)
-      × (new.teller ≡ teller_after old.play.exchange.subs old.teller entry)
-  TellsEntry old name entry (Err Memory) new text = text ≡ []
-  TellsEntry old name entry (Err Write) new text =
-      (count : ℕ) × (text ≡ take count (entry_told old.play.exchange.subs old.teller name entry))
-  TellsEntry old name entry (Err fault) new text = ⊥
+  -- what telling that these tables come into force under this name answers, and what is told of it
+  abbrev pub TellsNext : TellState A → NextTables → List ℕ → Result (Unit {0}) ReplayFault → TellState A → List ℕ → Type 0
+  TellsNext old next name (Ok done) new text =
+      (comes : ComesIntoForce old.play.exchange next.subs old.play.moment new.play.exchange)
+      × (text ≡ entry_told (force_in old.play.exchange) old.teller name comes.entry)
+      × (new.play ≡ record old.play { exchange = new.play.exchange })
+      × (new.teller ≡ teller_after (force_in old.play.exchange) old.teller comes.entry)
+  TellsNext old next name (Err Memory) new text = text ≡ []
+  TellsNext old next name (Err Write) new text =
+      (comes : ComesIntoForce old.play.exchange next.subs old.play.moment new.play.exchange)
+      × (count : ℕ) × (text ≡ take count (entry_told (force_in old.play.exchange) old.teller name comes.entry))
+  TellsNext old next name (Err fault) new text = ⊥
 
   -- The line is played, and the entries that it makes are told.
   pub record TellsWhole (old : TellState A) (line : List ℕ) (new : TellState A) (text : List ℕ) : Type 0 where

@@ -80,7 +80,7 @@ returns-clause-serve c =
         word = _;
         rows = _;
         found_is = refl;
-        subcommand_is = (refl, record { limits = record { records_are = refl; turns_are = refl }; details = (refl, refl); live = tt; no_live = refl; exchange = tt; trace = (refl, refl); console = refl; quiet = refl; until_eof = refl });
+        subcommand_is = (refl, record { limits = record { records_are = refl; turns_are = refl; threads_are = refl }; details = (refl, refl); live = tt; no_live = refl; exchange = tt; trace = (refl, refl); console = refl; quiet = refl; until_eof = refl });
         named = refl;
       };
     }
@@ -94,7 +94,7 @@ returns-clause-limits c =
         word = _;
         rows = _;
         found_is = refl;
-        subcommand_is = (refl, record { limits = record { records_are = twelve; turns_are = three }; details = (refl, refl); live = tt; no_live = refl; exchange = tt; trace = (refl, refl); console = refl; quiet = refl; until_eof = refl });
+        subcommand_is = (refl, record { limits = record { records_are = twelve; turns_are = three; threads_are = refl }; details = (refl, refl); live = tt; no_live = refl; exchange = tt; trace = (refl, refl); console = refl; quiet = refl; until_eof = refl });
         named = refl;
       };
     }
@@ -108,7 +108,7 @@ returns-clause-details c =
         word = _;
         rows = _;
         found_is = refl;
-        subcommand_is = (refl, record { limits = rw (limits) (record { records_are = refl; turns_are = refl }); details = (file, directory); live = subst (IsLive (Some (codes "c")) (Some (codes "b")) false) (sym live) refl; no_live = no_live; exchange = subst (IsNamed (Some (codes "xp-1"))) (sym exchange) xp_1; trace = rw (trace) ((refl, refl)); console = ap (option_map (λ address. address.now)) console; quiet = quiet; until_eof = until_eof });
+        subcommand_is = (refl, record { limits = rw (limits) (record { records_are = refl; turns_are = refl; threads_are = refl }); details = (file, directory); live = subst (IsLive (Some (codes "c")) (Some (codes "b")) false) (sym live) refl; no_live = no_live; exchange = subst (IsNamed (Some (codes "xp-1"))) (sym exchange) xp_1; trace = rw (trace) ((refl, refl)); console = ap (option_map (λ address. address.now)) console; quiet = quiet; until_eof = until_eof });
         named = refl;
       };
     }
@@ -125,7 +125,7 @@ returns-clause-directory c =
         subcommand_is = (
           refl,
           record {
-            limits = rw (limits) (record { records_are = refl; turns_are = refl });
+            limits = rw (limits) (record { records_are = refl; turns_are = refl; threads_are = refl });
             details = (file, directory);
             live = subst (IsLive (Some (codes "c")) (Some (codes "b")) false) (sym live) refl;
             no_live = no_live;
@@ -152,7 +152,7 @@ returns-clause-trace c =
         subcommand_is = (
           refl,
           record {
-            limits = rw (limits) (record { records_are = refl; turns_are = refl });
+            limits = rw (limits) (record { records_are = refl; turns_are = refl; threads_are = refl });
             details = (ap file_of details, ap directory_of details);
             live = subst (IsLive None None true) (sym (ap (option_map (λ path. path.now)) live)) tt;
             no_live = no_live;

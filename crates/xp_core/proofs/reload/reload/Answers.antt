@@ -1,6 +1,7 @@
 use Rattle.std.proofs.Common.{length, refl, subst, ◌∙◌}
 use Rattle.xp_core.specs.Reload.{IsRefusal}
-use Rattle.xp_step.specs.InForce.{MayFollow}
+use Rattle.xp_step.specs.InForce.{MayFollow, force_of}
+use Rattle.xp_core.proofs.GivenUp.{not_refused}
 use Rattle.xp_core.proofs.Reloads.{reload_enters}
 use Rattle.xp_core.proofs.reload.reload.Goals as goal
 
@@ -9,6 +10,14 @@ returns-in-Err-clause-refused g c =
     let entries = length c.args.journal.now.history in
     let journal = c.args.subs.now.opening.journal in
     subst (λ force. IsRefusal journal entries force c.args.machine.now c.args.next c.in-Err.fault) c.in_force.ensures (c.in-Err.ensures.err journal entries)
+
+pub returns-in-Err-clause-may : goal.returns-in-Err-clause-may
+returns-in-Err-clause-may g c may place =
+    let entries = length c.args.journal.now.history in
+    let journal = c.args.subs.now.opening.journal in
+    let force = force_of c.args.subs.now in
+    let refused = subst (λ tables. IsRefusal journal entries tables c.args.machine.now c.args.next c.in-Err.fault) c.in_force.ensures (c.in-Err.ensures.err journal entries) in
+    absurd (not_refused journal entries force c.args.machine.now c.args.next c.in-Err.fault may place refused)
 
 pub returns-in-Ok-clause-ok : goal.returns-in-Ok-clause-ok
 returns-in-Ok-clause-ok g c relays =

@@ -1,6 +1,5 @@
 use Rattle.std.proofs.Common.{◌≡◌, ◌+◌, ◌-◌, ◌≤◌, length, vec_len, vec_capacity}
 use Rattle.xp_step.specs.Stalls.{stalls_in}
-use Rattle.xp_step.specs.declared.event.TheConstants.{MOST_STALLS}
 use Rattle.xp_core.proofs.journal.Journal.prepare_stalls.Given as goal
 
 -- there is room for all stalls already
@@ -12,10 +11,10 @@ invariant-loop-alloc g l = record {
   given_count : l.self-inside.given_count ≡ length l.self-inside.given.items;
   given : l.self-inside.given.items ≡ l.fn.self.given;
   waiting : l.self-inside.waiting.items ≡ l.fn.self.waiting;
-  record_room : vec_len l.self-inside.waiting + MOST_STALLS ≤ vec_capacity l.self-inside.waiting;
+  record_room : vec_len l.self-inside.waiting + l.count ≤ vec_capacity l.self-inside.waiting;
   more : l.fn.self.stalls ≤ vec_len l.self-inside.spares;
-  few : vec_len l.self-inside.spares ≤ MOST_STALLS;
+  few : vec_len l.self-inside.spares ≤ l.count;
 }
 
 abbrev pub decreases-loop-alloc : goal.decreases-loop-alloc
-decreases-loop-alloc g l = MOST_STALLS - vec_len l.self-inside.spares
+decreases-loop-alloc g l = l.count - vec_len l.self-inside.spares

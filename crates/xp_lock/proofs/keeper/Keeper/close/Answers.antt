@@ -125,7 +125,7 @@ pub new-requires-clause-forced : goal.new-requires-clause-forced
 new-requires-clause-forced g c =
     let parts = c.into_parts-core.ensures in
     subst (λ t. AreForced t c.into_parts-core.result.0.history) (sym parts.subs)
-    (subst (AreForced c.self.inside.core_with_outboxes.subs) (sym parts.history) parts.kept.forced)
+    (subst (AreForced c.self.inside.core_with_outboxes.subs) (sym parts.history) parts.forced)
 
 pub returns-clause-taken : goal.returns-clause-taken
 returns-clause-taken g c =

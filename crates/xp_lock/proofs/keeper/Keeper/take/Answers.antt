@@ -5,12 +5,9 @@ use Rattle.xp_core.specs.Records.{records_of}
 use Rattle.xp_seats.specs.Handed.{handed}
 use Rattle.xp_lock.specs.Passes.{GainsEvent, IsLegal, Pass}
 use Rattle.xp_seats.specs.Views.{IsGrown, StartsWith, keeping}
-use Rattle.xp_lock.proofs.Fresh.{freshened, grown, not_stall}
+use Rattle.xp_lock.proofs.Fresh.{freshened, grown}
 use Rattle.xp_lock.proofs.Queues.{queues, queues_left, queues_taken}
 use Rattle.xp_lock.proofs.keeper.Keeper.take.Goals as goal
-
-pub take-requires-clause-kind : goal.take-requires-clause-kind
-take-requires-clause-kind g c = not_stall c.args.event.what c.requires.kind
 
 pub invariant_of-self : goal.invariant_of-self
 invariant_of-self g c =

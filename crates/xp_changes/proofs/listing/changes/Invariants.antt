@@ -1,5 +1,0 @@
-use Rattle.xp_changes.specs.Stations.{AreChanged}
-use Rattle.xp_changes.proofs.listing.changes.Given as goal
-
-abbrev pub invariant-loop-number : goal.invariant-loop-number
-invariant-loop-number l = AreChanged l.old l.new l.number l.stations.items

@@ -1,0 +1,2 @@
+-- What only private steps tell one another: no public contract cites it.
+pub mod Laid

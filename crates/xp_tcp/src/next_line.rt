@@ -1,0 +1,148 @@
+//! What a place of a line is to have next.
+
+ghost use Rattle.std.specs.Prelude.{◌≡◌};
+
+use crate::admission::Admission;
+use crate::line_place::LinePlace;
+use crate::own_port::OwnPort;
+use mio::net::TcpListener;
+use std::marker::Model;
+use std::net::SocketAddr;
+use std::sync::{Arc, Wait};
+use xp_door::Caller;
+
+/// The socket of a line's next port.
+#[derive(Drop)]
+pub(crate) enum NextSocket {
+    /// This one, for which the line's thread waits already.
+    Bound(TcpListener),
+    /// That of the place with this number, whose port is the same.
+    Of(usize),
+}
+
+/// Where the connections of a line are to come from.
+#[derive(Drop)]
+pub(crate) enum NextSource {
+    /// A port of the line's own, and from where its connections may come.
+    Own(u16, Admission, NextSocket),
+    /// The router of this address, whose calls are matched with this.
+    Router(SocketAddr, Caller),
+    /// Nowhere: the place is spare.
+    Spare,
+}
+
+/// What a place is to have next. Contracts see whether it keeps its line, and where its connections come from.
+#[derive(Drop)]
+pub(crate) struct NextLine {
+    /// Whether the place keeps its line, with its port or its router.
+    pub(crate) is_kept: bool,
+    pub(crate) source: NextSource,
+}
+
+impl Model for NextLine {
+    ghost use Rattle.xp_tcp.specs.NextPlaces.{NextPlace};
+    ghost use Rattle.xp_tcp.specs.steps.Sources.{next_origin};
+
+    ghost Value = { NextPlace };
+
+    ghost view = { λ line. record { is_kept = line.is_kept; origin = next_origin line.source } };
+}
+
+impl NextLine {
+    /// Holds its place, unless that keeps its line.
+    pub(crate) fn hold(&self, place: &LinePlace) {
+        if !self.is_kept {
+            place.hold();
+        }
+    }
+
+    /// It does not come: its place goes on where it was held, and its thread does not wait for a socket of another place any more.
+    pub(crate) fn give_up(&self, place: &LinePlace, places: &[Arc<LinePlace>], is_held: bool) {
+        if let NextSource::Own(_, _, NextSocket::Of(number)) = &self.source {
+            if let Some(other) = places.get(*number) {
+                place.expect_no_more(other);
+            }
+        }
+        if is_held && !self.is_kept {
+            place.release();
+        }
+    }
+
+    /// Takes the socket of another place, which is to be that of its own place.
+    pub(crate) fn take_socket<R: Wait>(
+        &mut self,
+        rt: &R,
+        place: &LinePlace,
+        places: &[Arc<LinePlace>],
+    )
+        ensures { self.new ≡ self.old }
+    {
+        if self.is_kept {
+            return;
+        }
+        if let NextSource::Own(_, _, socket) = &mut self.source {
+            if let NextSocket::Of(number) = socket {
+                if let Some(listener) = taken_from(rt, place, places, *number) {
+                    *socket = NextSocket::Bound(listener);
+                }
+            }
+        }
+    }
+
+    /// Takes port, router and connection from its place, unless that keeps its line.
+    pub(crate) fn clear<R: Wait>(&self, rt: &R, place: &LinePlace) {
+        if !self.is_kept {
+            place.clear(rt);
+        }
+    }
+
+    /// Puts its place behind its router, if it has another one.
+    pub(crate) fn set_router<R: Wait>(&self, rt: &R, place: &LinePlace) {
+        match &self.source {
+            NextSource::Router(router, _) if !self.is_kept => place.set_router(rt, *router),
+            _ => {}
+        }
+    }
+
+    /// Gives its place its own port, if it has another one, or the sources of the same one, and lets the place go on.
+    pub(crate) fn put<R: Wait>(self, rt: &R, place: &LinePlace) {
+        let NextLine { is_kept, source } = self;
+        if let NextSource::Own(port, admission, socket) = source {
+            if is_kept {
+                place.own.set_admission(rt, admission);
+            } else {
+                put_port(rt, place, port, admission, socket);
+            }
+        }
+        if !is_kept {
+            place.release();
+        }
+    }
+}
+
+/// Gives a place another port of its own, for connections from these sources.
+fn put_port<R: Wait>(
+    rt: &R,
+    place: &LinePlace,
+    port: u16,
+    admission: Admission,
+    socket: NextSocket,
+) {
+    match socket {
+        NextSocket::Bound(listener) => {
+            place.own.renew(rt, OwnPort::new(listener, port, admission));
+        }
+        // The place has none from which it is taken: the thread of that line has ended.
+        NextSocket::Of(_) => {}
+    }
+}
+
+/// The socket of the place with this number, which moves to another one.
+fn taken_from<R: Wait>(
+    rt: &R,
+    place: &LinePlace,
+    places: &[Arc<LinePlace>],
+    number: usize,
+) -> Option<TcpListener> {
+    place.take_from(rt, places.get(number)?)
+}

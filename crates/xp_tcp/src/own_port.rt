@@ -1,0 +1,129 @@
+//! The port of a line's own.
+
+ghost use Rattle.std.specs.Net.Socket.{socket_ip};
+ghost use Rattle.std.specs.Prelude.{◌≡◌, [], IfErr, IfOk};
+ghost use Rattle.xp_tcp.specs.Admissions.{Admits};
+ghost use Rattle.xp_tcp.specs.steps.Taking.{IsReason};
+
+use crate::admission::Admission;
+use mio::net::TcpListener;
+use mio::{Interest, Registry, Token};
+use std::io;
+use std::io::ErrorKind;
+use std::net::SocketAddr;
+use xp_door::Arrival;
+
+/// Why no connection was taken.
+#[derive(Drop)]
+pub(crate) enum NotTaken {
+    /// One has come from this peer, and may not. It is closed.
+    Stranger(SocketAddr),
+    /// The system has told this error.
+    Failed(io::Error),
+    /// No socket listens.
+    NoSocket,
+}
+
+/// The socket that listens at a line's own port, if it has one, and from where its connections may come.
+#[derive(Drop)]
+pub(crate) struct OwnPort {
+    listener: Option<TcpListener>,
+    port: u16,
+    admission: Admission,
+}
+
+impl OwnPort {
+    /// A socket that listens at this port, for connections from these sources.
+    pub(crate) fn new(listener: TcpListener, port: u16, admission: Admission) -> OwnPort
+        ensures port { result.port ≡ port }
+        ensures admission { result.admission ≡ admission }
+    {
+        OwnPort {
+            listener: Some(listener),
+            port,
+            admission,
+        }
+    }
+
+    /// No port.
+    pub(crate) fn none() -> OwnPort
+        ensures { result.admission ≡ [] }
+    {
+        OwnPort {
+            listener: None,
+            port: 0,
+            admission: Admission::any(),
+        }
+    }
+
+    /// Takes a connection that has come. One from an address that is not admitted is closed.
+    pub(crate) fn accept(&self) -> Result<Arrival, NotTaken>
+        ensures admitted { IfOk result (λ arrival. Admits self.now.admission (socket_ip arrival.peer)) }
+        ensures reason { IfErr result (IsReason self.now.admission) }
+    {
+        let Some(listener) = &self.listener else {
+            return Err(NotTaken::NoSocket);
+        };
+        match listener.accept() {
+            Ok((stream, peer)) => {
+                if !self.admission.admits(peer.ip()) {
+                    return Err(NotTaken::Stranger(peer));
+                }
+                Ok(Arrival { stream, peer })
+            }
+            Err(error) => Err(NotTaken::Failed(error)),
+        }
+    }
+
+    /// Whether connections may come from any address.
+    pub(crate) fn admits_any(&self) -> bool {
+        self.admission.is_any()
+    }
+
+    /// From where connections may come that come from now on.
+    pub(crate) fn set_admission(&mut self, admission: Admission)
+        ensures { self.new.admission ≡ admission }
+    {
+        self.admission = admission;
+    }
+
+    /// The port at which its socket listens.
+    pub(crate) fn port(&self) -> Option<u16> {
+        match &self.listener {
+            Some(_) => Some(self.port),
+            None => None,
+        }
+    }
+
+    /// The socket. From now on there is none.
+    pub(crate) fn take_listener(&mut self) -> Option<TcpListener>
+        ensures { self.new.admission ≡ self.old.admission }
+    {
+        self.listener.take()
+    }
+
+    /// Lets another thread wait for the socket too, by this name.
+    pub(crate) fn register_at(&mut self, waits: &Registry, name: Token) -> io::Result<()>
+        ensures { self.new.admission ≡ self.old.admission }
+    {
+        let Some(listener) = &mut self.listener else {
+            return Err(io::Error::from(ErrorKind::NotFound));
+        };
+        match waits.register(listener, name, Interest::READABLE) {
+            Err(error) if error.kind() == ErrorKind::AlreadyExists => {
+                waits.reregister(listener, name, Interest::READABLE)
+            }
+            registered => registered,
+        }
+    }
+
+    /// That thread does not wait for it any more.
+    pub(crate) fn deregister_at(&mut self, waits: &Registry)
+        ensures { self.new.admission ≡ self.old.admission }
+    {
+        if let Some(listener) = &mut self.listener {
+            // It fails only where the thread did not wait for it.
+            let _ = waits.deregister(listener);
+        }
+    }
+}
