@@ -10,18 +10,18 @@ use crate::line::LineEnd;
 use crate::served_line::ServedLine;
 use std::alloc::Global;
 use std::vec::IntoIter;
-use xp_links::{Clock, Gate, Port};
+use xp_links::{Clock, Port};
 use xp_seats::Name;
 
 /// Adds how these lines ended.
-pub(crate) fn add_ends<N: Name, P: Port, C: Clock, G: Gate>(
-    lines: Vec<ServedLine<N, P, C, G>>,
+pub(crate) fn add_ends<'s, N: Name + 's, P: Port, C: Clock>(
+    lines: Vec<ServedLine<'s, N, P, C>>,
     ends: Vec<LineEnd<N>>,
 ) -> Vec<LineEnd<N>>
     requires room { vec_len ends + vec_len lines ≤ vec_capacity ends }
-    ensures adds { Adds (EndsSo N.subs (AreMoved P.Link.pushed P.Link.pulled)) ends.items lines.items result.items }
+    ensures adds { Adds (EndsSo N.subs (AreMoved P.Link.pushed P.Link.pulled)) ends.items lines.entry.items result.items }
     ensures capacity { vec_capacity result ≡ vec_capacity ends }
-    ensures len { vec_len result ≡ vec_len ends + vec_len lines }
+    ensures len { vec_len result ≡ vec_len ends + vec_len lines.entry }
 {
     let mut ends = ends;
     for line in lines {
@@ -31,15 +31,15 @@ pub(crate) fn add_ends<N: Name, P: Port, C: Clock, G: Gate>(
 }
 
 /// Adds that these lines ended as they have no thread, or that could not be started.
-pub(crate) fn add_unstarted<N: Name, P: Port, C: Clock, G: Gate>(
-    lines: IntoIter<ServedLine<N, P, C, G>, Global>,
+pub(crate) fn add_unstarted<'s, N: Name + 's, P: Port, C: Clock>(
+    lines: IntoIter<ServedLine<'s, N, P, C>, Global>,
     ends: Vec<LineEnd<N>>,
 ) -> Vec<LineEnd<N>>
     requires many { length (into_iter_items lines) ≡ into_iter_len lines }
     requires room { vec_len ends + length (into_iter_items lines) ≤ vec_capacity ends }
-    ensures adds { Adds (EndsSo N.subs (AreMoved P.Link.pushed P.Link.pulled)) ends.items (into_iter_items lines) result.items }
+    ensures adds { Adds (EndsSo N.subs (AreMoved P.Link.pushed P.Link.pulled)) ends.items (into_iter_items lines.entry) result.items }
     ensures capacity { vec_capacity result ≡ vec_capacity ends }
-    ensures len { vec_len result ≡ vec_len ends + length (into_iter_items lines) }
+    ensures len { vec_len result ≡ vec_len ends + length (into_iter_items lines.entry) }
 {
     let mut ends = ends;
     for line in lines {

@@ -21,7 +21,8 @@ pub(crate) struct Recorded<N: Name, S: RecordSink> {
 }
 
 /// Hands charging records to the sink as calls end, until all lines have ended, and lets the sink do what it does from time to
-/// time. Where the sink answers that serving stops, the lines are asked to stop. Records that no memory could be had for at the
+/// time. Where the sink answers that serving stops, the lines are asked to stop. As it was handed all that are wanted, the exchange is
+/// halted. Records that no memory could be had for at the
 /// end stay with the exchange.
 pub(crate) fn keep_recording<N: Name, S: RecordSink, R: Wait>(
     rt: &R,
@@ -41,7 +42,9 @@ pub(crate) fn keep_recording<N: Name, S: RecordSink, R: Wait>(
     for _ in rt.forever() {
         let ended = signals.all_ended();
         let handed = hand_over(rt, alloc, exchange, &mut recorder, &mut sink);
-        signals.records_handed_on(recorder.received_count());
+        if signals.records_handed_on(recorder.received_count()) {
+            exchange.halt(rt);
+        }
         stop_at(signals, handed);
         let ticked = sink.tick();
         stop_at(signals, ticked);
