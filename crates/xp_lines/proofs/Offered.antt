@@ -108,9 +108,9 @@ module _ {A : Type 0} where
   gains_one subs old new line moment what receipt gains same = record {
     line = gains.line;
     taken = gains.taken;
-    entries = gains.entry ∷ [];
+    entries = gains.entered.forcing.entry ∷ [];
     own_entries_are = gains.own_entries_are;
-    events = ap (λ (e : Event A). on_line e.line e.what ∷ []) gains.event_is ∙ ap (λ l. on_line l what ∷ []) same;
+    events = ap (λ (e : Event A). on_line e.line e.what ∷ []) gains.entered.event_is ∙ ap (λ l. on_line l what ∷ []) same;
   }
 
 module _ {T : Type 0} where

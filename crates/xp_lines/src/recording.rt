@@ -102,7 +102,9 @@ fn reload<N: Name, S: RecordSink, R: Wait>(
     ensures hands { HandsOn S.received S.keeps recorder.old sink.old recorder.new sink.new }
 {
     let NextSubs { subs, moment } = next;
-    match exchange.reload(rt, recorder, subs, moment) {
+    // The lock is free again before the sink is given anything.
+    let outcome = exchange.lock(rt).reload(rt, recorder, subs, moment);
+    match outcome {
         Ok(records) => {
             let received = give(sink, records);
             sink.reloaded(Ok(()));
@@ -160,7 +162,7 @@ fn hand_records<N: Name, S: RecordSink, R: Wait>(
     ensures tables { S.tables sink.new ≡ S.tables sink.old }
     ensures hands { HandsOn S.received S.keeps recorder.old sink.old recorder.new sink.new }
 {
-    let Ok(records) = exchange.take_records(rt, recorder) else {
+    let Ok(records) = exchange.lock(rt).take_records(recorder) else {
         return Received::GoesOn;
     };
     give(sink, records)
@@ -181,7 +183,7 @@ fn show<N: Name, S: RecordSink, R: Wait>(
     ensures tables { S.tables sink.new ≡ S.tables sink.old }
     ensures hands { HandsOn S.received S.keeps recorder.old sink.old recorder.new sink.new }
 {
-    let Ok(look) = exchange.look(rt, alloc, recorder) else {
+    let Ok(look) = exchange.lock(rt).look(alloc, recorder) else {
         return Received::GoesOn;
     };
     let Look { records, view } = look;

@@ -111,7 +111,7 @@ fn serves<N: Name + Send + Sync, R: Threads + Wait + Sync>(
     requires tables { sink.shown.value ≡ prepared.subs }
     requires given { sink.given.items ≡ [] }
     requires subs { N.subs ≡ prepared.subs }
-    requires history_length { N.history_length ≡ prepared.history_length }
+    requires seats { N.seats ≡ prepared.seats }
     requires queues { N.queues ≡ prepared.queues }
 {
     let (exchange, passes, recorder) = Exchange::<N, Global>::start(alloc, prepared)?;

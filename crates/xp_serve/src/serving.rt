@@ -195,7 +195,7 @@ fn serve_named<
     sink: S,
 ) -> Result<Recorded<S>, NotServed<S>>
     requires subs { N.subs ≡ prepared.subs }
-    requires history_length { N.history_length ≡ prepared.history_length }
+    requires seats { N.seats ≡ prepared.seats }
     requires queues { N.queues ≡ prepared.queues }
     requires sockets { length sockets ≡ line_count prepared.subs }
     requires few { line_count prepared.subs ≤ most_lines }
@@ -286,7 +286,7 @@ fn make_ready<N: Name>(
     sockets: Sockets,
 ) -> Result<Ready<N>, AllocError>
     requires subs { N.subs ≡ prepared.subs }
-    requires history_length { N.history_length ≡ prepared.history_length }
+    requires seats { N.seats ≡ prepared.seats }
     requires queues { N.queues ≡ prepared.queues }
     requires sockets { length sockets ≡ line_count prepared.subs }
     ensures { IfOk result (AreReady N.subs) }
