@@ -8,16 +8,10 @@ ghost use Rattle.xp_serve.specs.Serving.{Serves};
 
 use crate::live::{LiveOfRun, RunBefore, begin_live_of, path_of_live};
 use crate::serving::{Beside, CopiedSubs, attend};
-use log::Log;
-use std::alloc::AllocGlobal;
+use crate::system::ServingSystem;
 use std::fs::{File, Files};
 use std::io;
 use std::io::{Read, Write};
-use std::net::{Net, TcpListener, TcpStream};
-use std::random::RandomSource;
-use std::sync::Wait;
-use std::thread::Threads;
-use std::time::Clock;
 use xp_arguments::ServeOrder;
 use xp_cdr::{DetailFile, ExchangeName, ExchangeRun, RecordFile, path_in};
 use xp_clock::WallClock;
@@ -30,21 +24,7 @@ use xp_subs::Subs;
 
 /// Serves the lines, and keeps their charging records in the file of call detail records at this path. Whatever serves has no other
 /// way to standard output than the output that it is lent here.
-pub(crate) fn serve_into_file<
-    R: AllocGlobal
-        + Clock
-        + Copy
-        + Drop
-        + Files<File = File>
-        + Log
-        + Net<Listener = TcpListener, Stream = TcpStream>
-        + RandomSource
-        + Send
-        + Sync
-        + Threads
-        + Wait
-        + 'static,
->(
+pub(crate) fn serve_into_file<R: ServingSystem>(
     rt: &R,
     host: HostRuntime,
     order: &ServeOrder<'_>,
@@ -78,21 +58,7 @@ pub(crate) fn serve_into_file<
 }
 
 /// Serves the lines as `serve_into_file` does, with a file of call detail records for each day in this directory.
-pub(crate) fn serve_into_directory<
-    R: AllocGlobal
-        + Clock
-        + Copy
-        + Drop
-        + Files<File = File>
-        + Log
-        + Net<Listener = TcpListener, Stream = TcpStream>
-        + RandomSource
-        + Send
-        + Sync
-        + Threads
-        + Wait
-        + 'static,
->(
+pub(crate) fn serve_into_directory<R: ServingSystem>(
     rt: &R,
     host: HostRuntime,
     order: &ServeOrder<'_>,
@@ -147,7 +113,6 @@ fn run_of<R: Files<File = File>>(
 }
 
 /// What the charging records of a run are kept with.
-#[derive(Drop)]
 struct DetailsOfRun<F: RecordFile> {
     /// The file of call detail records, which has just been opened.
     file: F,
@@ -157,29 +122,24 @@ struct DetailsOfRun<F: RecordFile> {
     live: LiveOfRun,
 }
 
+impl<F: RecordFile> Drop for DetailsOfRun<F> {
+    fn drop(self) {
+        let DetailsOfRun {
+            file: _,
+            run: _,
+            log: _,
+            live: _,
+        } = self;
+    }
+}
+
 /// Serves the lines, keeps their charging records in a file of call detail records, and writes those in doubt on the output, and
 /// nothing else. Returns what serving came to.
 ///
 /// # Errors
 ///
 /// Why serving did not begin. Then nothing is written.
-fn serve_with_details<
-    R: AllocGlobal
-        + Clock
-        + Copy
-        + Drop
-        + Files<File = File>
-        + Log
-        + Net<Listener = TcpListener, Stream = TcpStream>
-        + RandomSource
-        + Send
-        + Sync
-        + Threads
-        + Wait
-        + 'static,
-    F: RecordFile + Send + 'static,
-    W: Write,
->(
+fn serve_with_details<R: ServingSystem, F: RecordFile + Send + 'static, W: Write>(
     rt: &R,
     order: &ServeOrder<'_>,
     clock: WallClock,
@@ -218,21 +178,7 @@ fn serve_with_details<
 }
 
 /// Serves the lines, with this keeper of call detail records on a thread of its own.
-fn attend_details<
-    R: AllocGlobal
-        + Clock
-        + Copy
-        + Drop
-        + Log
-        + Net<Listener = TcpListener, Stream = TcpStream>
-        + RandomSource
-        + Send
-        + Sync
-        + Threads
-        + Wait
-        + 'static,
-    F: RecordFile + Send + 'static,
->(
+fn attend_details<R: ServingSystem, F: RecordFile + Send + 'static>(
     rt: &R,
     order: &ServeOrder<'_>,
     clock: WallClock,

@@ -8,18 +8,15 @@ mod live;
 mod served_console;
 mod serving;
 mod status_feed;
+mod system;
 
 use crate::serving::{CopiedSubs, serve_lines};
-use log::Log;
+use crate::system::ServingSystem;
 use std::fs::{File, Files};
 use std::io::ErrorKind;
 use std::net::{Net, TcpListener, TcpStream};
 use std::process::ExitCode;
-use std::random::RandomSource;
 use std::rt::Env;
-use std::sync::Wait;
-use std::thread::Threads;
-use std::time::Clock;
 use std::{env, fs, io};
 use xp_arguments::{
     Arguments, CheckOrder, QuestionOrder, ReplayOrder, ServeOrder, Subcommand, refused,
@@ -47,22 +44,12 @@ fn main(rt: HostRuntime) -> ExitCode {
 
 /// Performs what the words of the command line ask for.
 fn run<
-    R: AllocGlobal
-        + Clock
-        + Copy
-        + Drop
+    R: ServingSystem
         + Env
         + Files<File = File>
         + Input
-        + Log
         + Net<Listener = TcpListener, Stream = TcpStream>
-        + Print
-        + RandomSource
-        + Send
-        + Sync
-        + Threads
-        + Wait
-        + 'static,
+        + Print,
 >(rt: &R, host: HostRuntime) -> Result<(), Failure> {
     let words = words(rt)?;
     match Arguments::read(rt.alloc(), &words) {
@@ -72,23 +59,11 @@ fn run<
 }
 
 /// Performs the subcommand on the file, or at the console, that the arguments name.
-fn perform<
-    R: AllocGlobal
-        + Clock
-        + Copy
-        + Drop
-        + Files<File = File>
-        + Input
-        + Log
-        + Net<Listener = TcpListener, Stream = TcpStream>
-        + Print
-        + RandomSource
-        + Send
-        + Sync
-        + Threads
-        + Wait
-        + 'static,
->(rt: &R, host: HostRuntime, arguments: Arguments<'_>) -> Result<(), Failure> {
+fn perform<R: ServingSystem + Input + Print>(
+    rt: &R,
+    host: HostRuntime,
+    arguments: Arguments<'_>,
+) -> Result<(), Failure> {
     let operand = arguments.operand;
     match arguments.subcommand {
         Subcommand::Check(order) => check(rt, &order, operand),
@@ -171,21 +146,12 @@ fn print_told<R: AllocGlobal + Print>(rt: &R, told: &clap::Error) -> Result<(), 
 }
 
 /// Serves the lines of a subscription file.
-fn serve_file<
-    R: AllocGlobal
-        + Clock
-        + Copy
-        + Drop
-        + Files<File = File>
-        + Log
-        + Net<Listener = TcpListener, Stream = TcpStream>
-        + RandomSource
-        + Send
-        + Sync
-        + Threads
-        + Wait
-        + 'static,
->(rt: &R, host: HostRuntime, order: &ServeOrder<'_>, file: &str) -> Result<(), Failure> {
+fn serve_file<R: ServingSystem>(
+    rt: &R,
+    host: HostRuntime,
+    order: &ServeOrder<'_>,
+    file: &str,
+) -> Result<(), Failure> {
     let path = file.to_string(rt.alloc())?;
     let text = fs::read_to_string(rt, file);
     let own = subscriptions_of(rt, file, &text)?;

@@ -6,13 +6,12 @@ ghost use Rattle.xp_serve.specs.Serving.{Serves};
 use crate::into_file::{serve_into_directory, serve_into_file};
 use crate::served_console::ServedConsole;
 use crate::status_feed::StatusFeed;
+use crate::system::ServingSystem;
 use log::Log;
 use std::alloc::{AllocError, AllocGlobal, Global};
-use std::fs::{File, Files};
 use std::io::BufWriter;
 use std::marker::Brand;
 use std::net::{Net, TcpListener, TcpStream};
-use std::random::RandomSource;
 use std::sync::atomic::AtomicBool;
 use std::sync::atomic::Ordering::SeqCst;
 use std::sync::{Arc, Wait};
@@ -40,7 +39,6 @@ use xp_tcp::{LinePlaces, Notices};
 use xp_tracing::TraceThread;
 
 /// The subscriptions of the lines that are served, once for each who needs them.
-#[derive(Drop)]
 pub(crate) struct CopiedSubs {
     /// Those of the exchange.
     pub(crate) own: Subs,
@@ -50,6 +48,17 @@ pub(crate) struct CopiedSubs {
     pub(crate) live: Subs,
     /// Their file, which is read again where other subscriptions are asked for.
     pub(crate) file: ServedFile,
+}
+
+impl Drop for CopiedSubs {
+    fn drop(self) {
+        let CopiedSubs {
+            own: _,
+            names: _,
+            live: _,
+            file: _,
+        } = self;
+    }
 }
 
 /// The subscription file of the lines that are served.
@@ -65,7 +74,6 @@ type ServedRenewal<R> = Renewal<HostRuntime, R>;
 type PrintingKeeper<R> = QueuedKeeper<RecordPrinter<BufWriter<StandardOutput<HostRuntime>>>, R>;
 
 /// What goes on beside the lines.
-#[derive(Drop)]
 pub(crate) struct Beside<R: Wait> {
     pub(crate) tracing: Tracing<R>,
     /// What keeps the live calls in a file, if anything does.
@@ -76,7 +84,18 @@ pub(crate) struct Beside<R: Wait> {
     pub(crate) file: ServedFile,
 }
 
-impl<R: Wait> Beside<R> {
+impl<R: Drop + Wait> Drop for Beside<R> {
+    fn drop(self) {
+        let Beside {
+            tracing: _,
+            live: _,
+            partial_records: _,
+            file: _,
+        } = self;
+    }
+}
+
+impl<R: Drop + Wait> Beside<R> {
     /// This trace, and this file, beside lines whose live calls are not kept.
     pub(crate) fn new(tracing: Tracing<R>, file: ServedFile) -> Beside<R>
         ensures { result.live ≡ None }
@@ -92,21 +111,12 @@ impl<R: Wait> Beside<R> {
 
 /// Serves the lines as they were ordered. Their charging records are kept in the file of call detail records, or in those of a
 /// directory, if there is one, and are otherwise printed: by `host`, since what a thread of its own works with has no type parameter.
-pub(crate) fn serve_lines<
-    R: AllocGlobal
-        + Clock
-        + Copy
-        + Drop
-        + Files<File = File>
-        + Log
-        + Net<Listener = TcpListener, Stream = TcpStream>
-        + RandomSource
-        + Send
-        + Sync
-        + Threads
-        + Wait
-        + 'static,
->(rt: &R, host: HostRuntime, order: &ServeOrder<'_>, subs: CopiedSubs) -> Result<(), Failure>
+pub(crate) fn serve_lines<R: ServingSystem>(
+    rt: &R,
+    host: HostRuntime,
+    order: &ServeOrder<'_>,
+    subs: CopiedSubs,
+) -> Result<(), Failure>
     requires names { subs.names ≡ subs.own }
     requires live { subs.live ≡ subs.own }
 {
@@ -121,21 +131,7 @@ pub(crate) fn serve_lines<
 }
 
 /// Serves the lines, and prints their charging records.
-fn serve_and_print<
-    R: AllocGlobal
-        + Clock
-        + Copy
-        + Drop
-        + Files<File = File>
-        + Log
-        + Net<Listener = TcpListener, Stream = TcpStream>
-        + RandomSource
-        + Send
-        + Sync
-        + Threads
-        + Wait
-        + 'static,
->(
+fn serve_and_print<R: ServingSystem>(
     rt: &R,
     host: HostRuntime,
     order: &ServeOrder<'_>,
@@ -180,21 +176,7 @@ fn outcome_of<K: RecordKeeper>(end: ServeEnd<K>) -> Result<(), Failure> {
 
 /// Serves the lines with this keeper of their charging records, tells what the operator has to know, and looks whether to stop.
 /// Where a console is ordered it is served beside the lines.
-pub(crate) fn attend<
-    R: AllocGlobal
-        + Clock
-        + Copy
-        + Drop
-        + Log
-        + Net<Listener = TcpListener, Stream = TcpStream>
-        + RandomSource
-        + Send
-        + Sync
-        + Threads
-        + Wait
-        + 'static,
-    K: RecordKeeper,
->(
+pub(crate) fn attend<R: ServingSystem, K: RecordKeeper>(
     rt: &R,
     order: &ServeOrder<'_>,
     clock: WallClock,
@@ -333,21 +315,7 @@ impl<
 /// Serves the lines as `attend` does, with this console if there is one. `B` names the board between the console and the lines. This
 /// is proved for every name with these subscriptions: so what stands on the board is of an exchange of them, and the board asks for a
 /// stop only where the console granted one.
-fn attend_named<
-    B: BoardName + Send + Sync,
-    R: AllocGlobal
-        + Clock
-        + Copy
-        + Drop
-        + Log
-        + Net<Listener = TcpListener, Stream = TcpStream>
-        + Send
-        + Sync
-        + Threads
-        + Wait
-        + 'static,
-    K: RecordKeeper,
->(
+fn attend_named<B: BoardName + Send + Sync, R: ServingSystem, K: RecordKeeper>(
     rt: &R,
     console: Option<ServedConsole>,
     watching: Watching<R>,
@@ -374,21 +342,7 @@ fn attend_named<
 }
 
 /// Serves the lines, with a console beside them.
-fn attend_with_console<
-    B: BoardName + Send + Sync,
-    R: AllocGlobal
-        + Clock
-        + Copy
-        + Drop
-        + Log
-        + Net<Listener = TcpListener, Stream = TcpStream>
-        + Send
-        + Sync
-        + Threads
-        + Wait
-        + 'static,
-    K: RecordKeeper,
->(
+fn attend_with_console<B: BoardName + Send + Sync, R: ServingSystem, K: RecordKeeper>(
     rt: &R,
     console: ServedConsole,
     watching: Watching<R>,
