@@ -14,7 +14,7 @@ import server
 from router_calls import RouterCall
 from routers import ACCEPTED, CALL, CLEAR, CONFIRMATION, FIRST, PATIENCE, Router, XotCall
 from server import CLEAR_CONFIRMATION, call_request
-from served import Served, require, until
+from served import Served, answer_to_reload, require, until
 
 LETTERS = "abcdefghrsyz"
 
@@ -23,8 +23,6 @@ ADDRESSES = {letter: f"{20000 + place:05}1" for place, letter in enumerate(LETTE
 
 # How many places are reserved where a check names no others.
 PLACES = "spare_lines = 4\nspare_lines_128 = 1\n"
-
-HEADER = {"X-Gonukire": "reload"}
 
 
 @dataclasses.dataclass(frozen=True)
@@ -148,13 +146,7 @@ class Changing(Served):
     def reload(self, stations):
         """Has it read its file, which has these stations now. Returns the status and the text of the answer."""
         self.path.write_text(self.text(stations), encoding="ascii")
-        connection = http.client.HTTPConnection("127.0.0.1", self.console, timeout=PATIENCE)
-        try:
-            connection.request("POST", "/reload", headers=HEADER)
-            answer = connection.getresponse()
-            return answer.status, answer.read().decode().rstrip("\n")
-        finally:
-            connection.close()
+        return answer_to_reload(self.console)
 
     def comes(self, *stations, new=0, gone=0):
         """These stations come into force, with so many new lines, and so many that are gone."""

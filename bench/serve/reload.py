@@ -7,7 +7,6 @@ README.md says what is checked.
 
 import argparse
 import csv
-import http.client
 import itertools
 import selectors
 import sys
@@ -19,13 +18,12 @@ import server
 from moduli import STATIONS, End, Station
 from routers import ACCEPTED, CALL, CLEAR, Wrong, XotCall
 from server import CLEAR_CONFIRMATION, call_request
-from served import Served, require, run_checks, station, until
+from served import Served, answer_to_reload, require, run_checks, station, until
 
 # Pairs of lines whose calls last from before the first reload until after the last one.
 PAIRS = 16
 WINDOW = 2
 BARRED, NOT_OBTAINABLE = (0x0B, 0), (0x0D, 67)
-HEADER = {"X-Gonukire": "reload"}
 
 # What the stations of three lines are by day and by night: x calls y, or z at another address.
 GROUP = '[[station.group]]\nname = "{name}"\nindex = 1\n'
@@ -80,13 +78,7 @@ class Reloaded(Served):
     def reload(self, text):
         """Has it read its file, which has this text now. Returns the status and the text of the answer."""
         self.put(text)
-        connection = http.client.HTTPConnection("127.0.0.1", self.console, timeout=20)
-        try:
-            connection.request("POST", "/reload", headers=HEADER)
-            answer = connection.getresponse()
-            return answer.status, answer.read().decode().rstrip("\n")
-        finally:
-            connection.close()
+        return answer_to_reload(self.console)
 
     def records(self):
         with open(self.records_path, newline="", encoding="ascii") as file:

@@ -2,6 +2,7 @@
 it ends; and the lines that are connected to it."""
 
 import argparse
+import http.client
 import os
 import pathlib
 import resource
@@ -22,6 +23,17 @@ OUT_OF_ORDER = bytes.fromhex("1001130900")
 def require(holds, what):
     if not holds:
         raise Wrong(what)
+
+
+def answer_to_reload(console):
+    """Has the exchange of the console at this port read its file again. Returns the status and the text of the answer."""
+    connection = http.client.HTTPConnection("127.0.0.1", console, timeout=PATIENCE)
+    try:
+        connection.request("POST", "/reload", headers={"X-Gonukire": "reload"})
+        answer = connection.getresponse()
+        return answer.status, answer.read().decode().rstrip("\n")
+    finally:
+        connection.close()
 
 
 def data(place, octets):
