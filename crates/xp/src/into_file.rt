@@ -147,7 +147,6 @@ fn run_of<R: Files<File = File>>(
 }
 
 /// What the charging records of a run are kept with.
-#[derive(Drop)]
 struct DetailsOfRun<F: RecordFile> {
     /// The file of call detail records, which has just been opened.
     file: F,
@@ -155,6 +154,33 @@ struct DetailsOfRun<F: RecordFile> {
     run: ExchangeRun,
     log: OperatorLog<HostRuntime>,
     live: LiveOfRun,
+}
+
+impl<F: RecordFile> Drop for DetailsOfRun<F> {
+    fn drop(self) {
+        let DetailsOfRun {
+            file: _,
+            run: _,
+            log: _,
+            live: _,
+        } = self;
+    }
+}
+
+impl<F: RecordFile> DetailsOfRun<F> {
+    /// The file, the run, the log and the live calls.
+    fn into_parts(self) -> (F, ExchangeRun, OperatorLog<HostRuntime>, LiveOfRun)
+        ensures file { result.0 ≡ self.file }
+        ensures run { result.1 ≡ self.run }
+    {
+        let DetailsOfRun {
+            file,
+            run,
+            log,
+            live,
+        } = self;
+        (file, run, log, live)
+    }
 }
 
 /// Serves the lines, keeps their charging records in a file of call detail records, and writes those in doubt on the output, and
@@ -196,18 +222,8 @@ fn serve_with_details<
     ensures ok { IfOk result (λ told. (keeper : Queued Keeping) × LeavesAlone subs.own details.run keeper (W.contents output.old) (W.contents output.new) told) }
     ensures err { OnErr result (W.contents output.new ≡ W.contents output.old) }
 {
-    let CopiedSubs {
-        own,
-        names,
-        live: told_by,
-        file: subscription_file,
-    } = subs;
-    let DetailsOfRun {
-        file,
-        run,
-        log,
-        live,
-    } = details;
+    let (own, names, told_by, subscription_file) = subs.into_parts();
+    let (file, run, log, live) = details.into_parts();
     let tracing = Tracing::begin(rt, order, clock, &own)?;
     let begun = Beside::new(tracing, subscription_file);
     let beside = live.kept_in(rt, clock, told_by, &run, begun)?;

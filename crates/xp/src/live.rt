@@ -27,7 +27,6 @@ pub(crate) fn path_of_live(alloc: Global, records: &str) -> Result<String, Alloc
 }
 
 /// What the run before left.
-#[derive(Drop)]
 pub(crate) struct RunBefore {
     /// How its file of call detail records was found.
     pub(crate) opened: Opened,
@@ -35,6 +34,16 @@ pub(crate) struct RunBefore {
     pub(crate) live: String,
     /// The path of its file of call detail records of the day before, if there is one.
     pub(crate) earlier: Option<String>,
+}
+
+impl Drop for RunBefore {
+    fn drop(self) {
+        let RunBefore {
+            opened: _,
+            live: _,
+            earlier: _,
+        } = self;
+    }
 }
 
 impl RunBefore {
@@ -115,18 +124,7 @@ impl LiveOfRun {
     {
         let partial_records = self.left.calls as u64;
         let live = self.keep(rt, clock, subs, run)?;
-        let Beside {
-            tracing,
-            live: _,
-            partial_records: _,
-            file,
-        } = beside;
-        Ok(Beside {
-            tracing,
-            live,
-            partial_records,
-            file,
-        })
+        Ok(beside.with_live(live, partial_records))
     }
 
     /// What keeps the live calls of this run in the file, if there is one.

@@ -40,7 +40,6 @@ use xp_tcp::{LinePlaces, Notices};
 use xp_tracing::TraceThread;
 
 /// The subscriptions of the lines that are served, once for each who needs them.
-#[derive(Drop)]
 pub(crate) struct CopiedSubs {
     /// Those of the exchange.
     pub(crate) own: Subs,
@@ -50,6 +49,34 @@ pub(crate) struct CopiedSubs {
     pub(crate) live: Subs,
     /// Their file, which is read again where other subscriptions are asked for.
     pub(crate) file: ServedFile,
+}
+
+impl Drop for CopiedSubs {
+    fn drop(self) {
+        let CopiedSubs {
+            own: _,
+            names: _,
+            live: _,
+            file: _,
+        } = self;
+    }
+}
+
+impl CopiedSubs {
+    /// Those of the exchange, those of the records, those of the live calls, and their file.
+    pub(crate) fn into_parts(self) -> (Subs, Subs, Subs, ServedFile)
+        ensures own { result.0 ≡ self.own }
+        ensures names { result.1 ≡ self.names }
+        ensures live { result.2 ≡ self.live }
+    {
+        let CopiedSubs {
+            own,
+            names,
+            live,
+            file,
+        } = self;
+        (own, names, live, file)
+    }
 }
 
 /// The subscription file of the lines that are served.
@@ -65,7 +92,6 @@ type ServedRenewal<R> = Renewal<HostRuntime, R>;
 type PrintingKeeper<R> = QueuedKeeper<RecordPrinter<BufWriter<StandardOutput<HostRuntime>>>, R>;
 
 /// What goes on beside the lines.
-#[derive(Drop)]
 pub(crate) struct Beside<R: Wait> {
     pub(crate) tracing: Tracing<R>,
     /// What keeps the live calls in a file, if anything does.
@@ -76,7 +102,18 @@ pub(crate) struct Beside<R: Wait> {
     pub(crate) file: ServedFile,
 }
 
-impl<R: Wait> Beside<R> {
+impl<R: Drop + Wait> Drop for Beside<R> {
+    fn drop(self) {
+        let Beside {
+            tracing: _,
+            live: _,
+            partial_records: _,
+            file: _,
+        } = self;
+    }
+}
+
+impl<R: Drop + Wait> Beside<R> {
     /// This trace, and this file, beside lines whose live calls are not kept.
     pub(crate) fn new(tracing: Tracing<R>, file: ServedFile) -> Beside<R>
         ensures { result.live ≡ None }
@@ -87,6 +124,37 @@ impl<R: Wait> Beside<R> {
             partial_records: 0,
             file,
         }
+    }
+
+    /// This, beside lines whose live calls this keeps, if anything does. So many calls of the run before got a partial record.
+    pub(crate) fn with_live(self, live: Option<LiveKeeper<R>>, partial_records: u64) -> Beside<R>
+        ensures { result.live ≡ live }
+    {
+        let Beside {
+            tracing,
+            live: _,
+            partial_records: _,
+            file,
+        } = self;
+        Beside {
+            tracing,
+            live,
+            partial_records,
+            file,
+        }
+    }
+
+    /// The trace, what keeps the live calls, the number of partial records, and where other subscriptions come from.
+    fn into_parts(self) -> (Tracing<R>, Option<LiveKeeper<R>>, u64, ServedFile)
+        ensures { result.1 ≡ self.live }
+    {
+        let Beside {
+            tracing,
+            live,
+            partial_records,
+            file,
+        } = self;
+        (tracing, live, partial_records, file)
     }
 }
 
@@ -144,12 +212,7 @@ fn serve_and_print<
 ) -> Result<(), Failure>
     requires { subs.names ≡ subs.own }
 {
-    let CopiedSubs {
-        own,
-        names,
-        live: _,
-        file,
-    } = subs;
+    let (own, names, _, file) = subs.into_parts();
     let tracing = Tracing::begin(rt, order, clock, &own)?;
     let beside = Beside::new(tracing, file);
     let keeper = begin_printing(rt, host, names)?;
@@ -208,12 +271,7 @@ pub(crate) fn attend<
     ensures { IfOk result (λ end. Serves K.kept K.keeps subs keeper end.keeper end.outcome) }
 {
     let alloc = rt.alloc();
-    let Beside {
-        tracing,
-        live,
-        partial_records,
-        file,
-    } = beside;
+    let (tracing, live, partial_records, file) = beside.into_parts();
     let notices = tracing.notices(alloc, clock.start)?;
     let notices = Arc::new(alloc, notices).map_err(|_| TaskFailure::Memory)?;
     let places = LinePlaces::new(Arc::try_clone(&notices)?);

@@ -5,6 +5,7 @@ pub mod Idle
 pub mod Lines
 pub mod Octets
 pub mod Played
+pub mod Prepared
 pub mod Script
 pub mod SoFar
 pub mod Steps

@@ -31,7 +31,6 @@ const MOST_WAITING: usize = 1_000;
 
 /// Takes the events off the queue and acts on them in turn. Writes the text of each entry before it acts on the next
 /// event. `memory` is for the octets of a frame, and `text` for the text of an entry. What they held is lost.
-#[inline(always)]
 pub fn act_on_all<A: Allocator + Copy, W: Write>(
     core: &mut Core<A>,
     events: &mut VecDeque<Event<A>, A>,
@@ -62,14 +61,18 @@ fn act_on<A: Allocator + Copy, W: Write>(
     ensures acted { (text : List ℕ) × Appends (W.contents writer.old) (W.contents writer.new) text × Acted core.old (event ∷ []) result core.new text }
     ensures subs { core.new.subs ≡ core.old.subs }
 {
-    match step(core, event) {
+    if core.count() + PLACES > core.subs().journal() {
+        return Err(refuse(event));
+    }
+    // The entry is large: it is told where the step puts it, and not moved.
+    match core.step(event) {
         Ok(entry) => {
             let told = tell(in_force(core), &entry, memory, text, writer);
             core.keep_memory(outputs_of(entry));
             drop_records(core);
             told
         }
-        Err(fault) => Err(fault),
+        Err(fault) => Err(reason_of(&fault)),
     }
 }
 

@@ -6,7 +6,7 @@ ghost use Rattle.xp_reload.specs.Frame.{IsSameFrame};
 ghost use Rattle.xp_step.specs.Exchange.{world_of};
 ghost use Rattle.xp_exchange.specs.FrameEvents.{CanCome, Fits};
 ghost use Rattle.xp_exchange.specs.Play.{ComesIntoForce, Enters, LineRead, MayCome, Plays, RefusesEvent, RefusesLine, event_of, force_in, is_off_at, moment_after};
-ghost use Rattle.xp_exchange.specs.steps.Playing.{Played, RefusesCommand};
+ghost use Rattle.xp_exchange.specs.steps.Playing.{IsRead, Played, RefusesCommand};
 ghost use Rattle.xp_script.specs.Command.{HasLine, HasTables, reload_of, said};
 ghost use Rattle.xp_script.specs.Lines.{HasLines};
 ghost use Rattle.xp_script.specs.NamedText.{name_at};
@@ -14,8 +14,8 @@ ghost use Rattle.xp_subs.specs.Tables.{line_count};
 
 use crate::acting::{act_on_all, enter};
 use crate::fault::ReplayFault;
-use crate::next_tables::NextTables;
-use crate::reloading::{bring, in_force, read_next};
+use crate::next_tables::{AskedTables, NextTables};
+use crate::reloading::{bring, bring_next, in_force, prepare, read_next};
 use crate::streams::Streams;
 use std::alloc::{AllocError, Allocator, Global};
 use std::collections::VecDeque;
@@ -44,6 +44,8 @@ pub struct ScriptPlayer<'s, 'n, A: Allocator = Global> {
     events: VecDeque<Event<A>, A>,
     /// The text of an entry.
     text: Vec<u8, A>,
+    /// The subscriptions that the line asks for which is played, until they come into force.
+    next: Option<NextTables>,
 }
 
 impl<'s, 'n, A: Allocator> Model for ScriptPlayer<'s, 'n, A> {
@@ -81,6 +83,7 @@ impl<'s, 'n, A: Allocator + Copy> ScriptPlayer<'s, 'n, A> {
                 octets: Vec::new(alloc),
                 events: VecDeque::new(alloc),
                 text: Vec::new(alloc),
+                next: None,
             }),
             Err(_) => Err(core),
         }
@@ -144,9 +147,14 @@ impl<'s, 'n, A: Allocator + Copy> ScriptPlayer<'s, 'n, A> {
             octets,
             ..
         } = self;
-        read_line(
+        let asked = read_line(
             *alloc, core, streams, named, moment, octets, number, line, events,
-        )
+        )?;
+        let Some(asked) = asked else {
+            return Ok(None);
+        };
+        let next = read_next(core, named, asked, *moment, events)?;
+        Ok(Some(next))
     }
 
     /// Brings subscriptions into force, once the lines that go are given up.
@@ -194,21 +202,23 @@ impl<'s, 'n, A: Allocator + Copy> ScriptPlayer<'s, 'n, A> {
             octets,
             events,
             text,
+            next,
         } = self;
-        let next = read_line(
+        let asked = read_line(
             *alloc, core, streams, named, moment, octets, number, line, events,
         )?;
+        prepare(core, named, asked, *moment, events, next)?;
         act_on_all(core, events, octets, text, writer)?;
-        let Some(next) = next else {
+        let Some(_) = asked else {
             return Ok(());
         };
-        bring(core, next.subs, *moment);
+        bring_next(core, next, *moment);
         Ok(())
     }
 }
 
-/// Reads the line of this number, and fills the queue with its events. Returns the subscriptions that it brings into force, if it does.
-/// `memory` is for the octets that come in on a line. What it and the queue held is lost.
+/// Reads the line of this number, and fills the queue with its events. Where it asks for subscriptions, that is returned, and
+/// nothing is done yet. `memory` is for the octets that come in on a line. What it and the queue held is lost.
 #[inline(always)]
 fn read_line<A: Allocator + Copy>(
     alloc: A,
@@ -220,16 +230,18 @@ fn read_line<A: Allocator + Copy>(
     number: u64,
     line: &[u8],
     events: &mut VecDeque<Event<A>, A>,
-) -> Result<Option<NextTables>, ReplayFault>
+) -> Result<Option<AskedTables>, ReplayFault>
     requires lines { length streams.old ≡ line_count core.now.subs }
-    ensures read { IfOk result (LineRead (record { exchange = core.now; unfinished = streams.old; moment = moment.old; named = named.now }) line.now events.new.items (record { exchange = core.now; unfinished = streams.new; moment = moment.new; named = named.now })) }
+    ensures read { IfOk result (IsRead (record { exchange = core.now; unfinished = streams.old; moment = moment.old; named = named.now }) number line.now events.new.items (record { exchange = core.now; unfinished = streams.new; moment = moment.new; named = named.now })) }
     ensures refused { IfErr result (RefusesLine (record { exchange = core.now; unfinished = streams.old; moment = moment.old; named = named.now }) number line.now) }
     ensures lines { length streams.new ≡ length streams.old }
 {
     let command = read_command(alloc, in_force(core), named, memory, number, line)?;
     if let Some(tables) = command.reload() {
-        let next = read_next(core, named, tables, number, *moment, events)?;
-        return Ok(Some(next));
+        return Ok(Some(AskedTables {
+            line: number,
+            tables,
+        }));
     }
     let next = moment_after(*moment, &command);
     read_events(core, streams, *moment, command, events, memory)?;

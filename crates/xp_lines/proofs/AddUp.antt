@@ -61,9 +61,9 @@ module _ {A : Type 0} where
   grows_up subs line old connection came is comes =
       let before : comes.before.line ≡ line = comes.drops.1.line ∙ is in
       record {
-        entries = comes.gains.entry ∷ [];
-        own_entries_are = comes.gains.own_entries_are ∙ ap (λ xs. xs ++ comes.gains.entry ∷ []) (took_mine old comes.drops.0 comes.before comes.drops.1);
-        events = ap (λ (e : Event A). on_line e.line e.what ∷ []) comes.gains.event_is ∙ ap (λ l. on_line l Up ∷ []) before;
+        entries = comes.gains.entered.forcing.entry ∷ [];
+        own_entries_are = comes.gains.own_entries_are ∙ ap (λ xs. xs ++ comes.gains.entered.forcing.entry ∷ []) (took_mine old comes.drops.0 comes.before comes.drops.1);
+        events = ap (λ (e : Event A). on_line e.line e.what ∷ []) comes.gains.entered.event_is ∙ ap (λ l. on_line l Up ∷ []) before;
         line_is = comes.gains.line ∙ before;
       }
 

@@ -9,12 +9,12 @@ use Rattle.xp_lines.specs.Offers.{Gains}
 use Rattle.xp_lines.specs.Sessions.{AreMoved, AreSessions, Drops, IsGone, IsLineServed, PastSession, left_at_last}
 use Rattle.xp_lines.specs.Wire.{Writes, WritesRest}
 use Rattle.xp_lines.specs.steps.Serving.{EndsFor, GoesOnTo, IsLineSo, StaysSo, StopsWith, WritesOn}
-use Rattle.xp_lines.specs.steps.Sessions.{Closes, GoesBy, GoesOn, IsOn, IsThere, Steps, here, seen_on}
+use Rattle.xp_lines.specs.steps.Sessions.{Closes, GoesBy, GoesOn, IsOn, IsThere, Steps, here}
+use Rattle.xp_lines.specs.Turns.{seen_on}
 use Rattle.xp_lines.specs.declared.line.EndReason.{EndReason}
 use Rattle.xp_lines.specs.declared.line.EndReason.TheVariants.{Stopped}
 use Rattle.xp_lines.specs.declared.line_state.LineState.{LineState}
 use Rattle.xp_lines.specs.declared.line_state.LineState.TheVariants as states
-use Rattle.xp_lines.specs.declared.line_state.Unwritten.{Unwritten}
 use Rattle.xp_lines.specs.declared.session.Session.{Session}
 use Rattle.xp_lines.proofs.Sessions.{drops_both, ends_with, gone_with, goes_not, is_down, on_nothing, on_there, written_last}
 use Rattle.xp_lines.proofs.Written.{rest_again, rest_more, rest_nothing}
@@ -50,10 +50,10 @@ module _ {L : Type 0} (subs : Tables) (pushed pulled : L → Option (List ℕ)) 
       so_ended first session pass why new so.0 (on_there subs (AreMoved pushed pulled) first (here pushed pulled session) pass so.1) closes same
 
   -- an open line was stopped, and has still to write
-  pub so_stops : (linked : Session L Alloc) (pass : Pass Alloc) (rest : Unwritten L) (new : Pass Alloc)
-      → Gains pass (Down ∷ []) new → new.line ≡ pass.line → rest ≡ record { link = linked.link; connection = linked.connection; octets = linked.unwritten }
-      → GoesOnTo subs pushed pulled (Some linked) pass (states.Stopped rest) new
-  so_stops linked pass rest new gains same is first so =
+  pub so_stops : (linked : Session L Alloc) (pass new : Pass Alloc)
+      → Gains pass (Down ∷ []) new → new.line ≡ pass.line
+      → GoesOnTo subs pushed pulled (Some linked) pass (states.Stopped linked) new
+  so_stops linked pass new gains same first so =
       let here = seen_on pushed pulled linked in
       let gone = gone_with subs (AreMoved pushed pulled) first here.0 here.1 pass new (on_there subs (AreMoved pushed pulled) first (Some here) pass so.1) gains in
       let last = (left_at_last gone.session).seen in
@@ -63,18 +63,18 @@ module _ {L : Type 0} (subs : Tables) (pushed pulled : L → Option (List ℕ)) 
         are = gone.are;
         gone = gone.all_gone;
         line = ap (λ (p : Pass Alloc). p.line) gone.gone_is ∙ same ∙ so.0;
-        connection = ap (λ (r : Unwritten L). r.connection) is ∙ sym gone.connection_is;
+        connection = sym gone.connection_is;
         writes =
-            subst (λ (p : Pass Alloc). WritesRest (modulus_of subs gone.session.gone.line) gone.session.connection gone.session.gone last.unwritten last.pushed p rest.octets.items (pushed rest.link) []) gone.gone_is
-            (subst (λ octets. WritesRest (modulus_of subs gone.session.gone.line) gone.session.connection gone.session.gone last.unwritten last.pushed gone.session.gone octets (pushed rest.link) [])
-            (ap (λ s. s.unwritten) gone.seen_is ∙ sym (ap (λ (r : Unwritten L). r.octets.items) is))
+            subst (λ (p : Pass Alloc). WritesRest (modulus_of subs gone.session.gone.line) gone.session.connection gone.session.gone last.unwritten last.pushed p linked.unwritten.items (pushed linked.link) []) gone.gone_is
+            (subst (λ octets. WritesRest (modulus_of subs gone.session.gone.line) gone.session.connection gone.session.gone last.unwritten last.pushed gone.session.gone octets (pushed linked.link) [])
+            (ap (λ s. s.unwritten) gone.seen_is)
             (subst (λ into. WritesRest (modulus_of subs gone.session.gone.line) gone.session.connection gone.session.gone last.unwritten last.pushed gone.session.gone last.unwritten into [])
-            (ap (λ s. s.pushed) gone.seen_is ∙ sym (ap (λ (r : Unwritten L). pushed r.link) is))
+            (ap (λ s. s.pushed) gone.seen_is)
             (rest_nothing (modulus_of subs gone.session.gone.line) gone.session.connection gone.session.gone last.unwritten last.pushed)));
       }
 
   -- a stopped line, once this link has got so much of what was owed to it
-  ends_written : (first : Pass Alloc) (rest : Unwritten L) (pass : Pass Alloc) → (so : StopsWith subs pushed pulled first rest pass) → (new : Pass Alloc) (link : L) (left lost : List ℕ)
+  ends_written : (first : Pass Alloc) (rest : Session L Alloc) (pass : Pass Alloc) → (so : StopsWith subs pushed pulled first rest pass) → (new : Pass Alloc) (link : L) (left lost : List ℕ)
       → WritesRest (modulus_of subs so.session.gone.line) so.session.connection so.session.gone (left_at_last so.session).seen.unwritten (left_at_last so.session).seen.pushed new left (pushed link) lost
       → EndsFor subs (AreMoved pushed pulled) first Stopped new
   ends_written first rest pass so new link left lost writes =
@@ -91,11 +91,11 @@ module _ {L : Type 0} (subs : Tables) (pushed pulled : L → Option (List ℕ)) 
       )
 
   -- a stopped line, if no more is written
-  pub ends_stopped : (first : Pass Alloc) (rest : Unwritten L) (pass : Pass Alloc) → StopsWith subs pushed pulled first rest pass → EndsFor subs (AreMoved pushed pulled) first Stopped pass
-  ends_stopped first rest pass so = ends_written first rest pass so pass rest.link rest.octets.items [] so.writes
+  pub ends_stopped : (first : Pass Alloc) (rest : Session L Alloc) (pass : Pass Alloc) → StopsWith subs pushed pulled first rest pass → EndsFor subs (AreMoved pushed pulled) first Stopped pass
+  ends_stopped first rest pass so = ends_written first rest pass so pass rest.link rest.unwritten.items [] so.writes
 
   -- more is written, and something is left
-  pub writes_more : (rest : Unwritten L) (pass : Pass Alloc) (more : Unwritten L) (new : Pass Alloc) → WritesOn (modulus_of subs pass.line) pushed rest pass (Some more) new
+  pub writes_more : (rest : Session L Alloc) (pass : Pass Alloc) (more : Session L Alloc) (new : Pass Alloc) → WritesOn (modulus_of subs pass.line) pushed rest pass (Some more) new
       → StaysSo subs pushed pulled (states.Stopped rest) pass (states.Stopped more) new
   writes_more rest pass more new on first so = record {
     sessions = so.sessions;
@@ -106,22 +106,22 @@ module _ {L : Type 0} (subs : Tables) (pushed pulled : L → Option (List ℕ)) 
     connection = on.is_left.0 ∙ so.connection;
     writes =
         let last = (left_at_last so.session).seen in
-        let all = rest_again (modulus_of subs so.session.gone.line) (modulus_of subs pass.line) so.session.connection so.session.gone last.unwritten last.pushed pass rest.octets.items (pushed rest.link)
+        let all = rest_again (modulus_of subs so.session.gone.line) (modulus_of subs pass.line) so.session.connection so.session.gone last.unwritten last.pushed pass rest.unwritten.items (pushed rest.link)
         new on.left (pushed on.link) on.lost so.writes (ap (modulus_of subs) so.writes.took.line)
-        (subst (λ connection. Writes (modulus_of subs pass.line) connection pass rest.octets.items (pushed rest.link) new on.left (pushed on.link) on.lost) so.connection on.writes) on.is_left.3 in
+        (subst (λ connection. Writes (modulus_of subs pass.line) connection pass rest.unwritten.items (pushed rest.link) new on.left (pushed on.link) on.lost) so.connection on.writes) on.is_left.3 in
         subst (λ octets. WritesRest (modulus_of subs so.session.gone.line) so.session.connection so.session.gone last.unwritten last.pushed new octets (pushed more.link) []) (sym on.is_left.1)
         (subst (λ into. WritesRest (modulus_of subs so.session.gone.line) so.session.connection so.session.gone last.unwritten last.pushed new on.left into []) (sym on.is_left.2) all);
   }
 
   -- the last of it is written, or no more can be
-  pub writes_all : (rest : Unwritten L) (pass new : Pass Alloc) → WritesOn (modulus_of subs pass.line) pushed rest pass None new
+  pub writes_all : (rest : Session L Alloc) (pass new : Pass Alloc) → WritesOn (modulus_of subs pass.line) pushed rest pass None new
       → StaysSo subs pushed pulled (states.Stopped rest) pass (states.Ended Stopped) new
   writes_all rest pass new on first so =
       let last = (left_at_last so.session).seen in
       ends_written first rest pass so new on.link on.left on.lost
-      (rest_more (modulus_of subs so.session.gone.line) (modulus_of subs pass.line) so.session.connection so.session.gone last.unwritten last.pushed pass rest.octets.items (pushed rest.link)
+      (rest_more (modulus_of subs so.session.gone.line) (modulus_of subs pass.line) so.session.connection so.session.gone last.unwritten last.pushed pass rest.unwritten.items (pushed rest.link)
       new on.left (pushed on.link) on.lost so.writes (ap (modulus_of subs) so.writes.took.line)
-      (subst (λ connection. Writes (modulus_of subs pass.line) connection pass rest.octets.items (pushed rest.link) new on.left (pushed on.link) on.lost) so.connection on.writes))
+      (subst (λ connection. Writes (modulus_of subs pass.line) connection pass rest.unwritten.items (pushed rest.link) new on.left (pushed on.link) on.lost) so.connection on.writes))
 
   -- it is as it was
   pub so_stays : (session : Option (Session L Alloc)) (pass new : Pass Alloc) → new ≡ pass → GoesOnTo subs pushed pulled session pass (states.Open session) new

@@ -11,12 +11,12 @@ use Rattle.xp_lock.specs.declared.receipt.Receipt.{Receipt}
 use Rattle.xp_lines.specs.Offers.{Gains}
 use Rattle.xp_lines.specs.Sessions.{AreSessions, ComesUp, Drops, EndsWritten, Goes, IsGone, IsLineDown, IsLineServed, IsSession, PastSession, WritesLast, left_at_last}
 use Rattle.xp_lines.specs.Together.{AreTurns, Left, MayFollow, last_of}
-use Rattle.xp_lines.specs.Turns.{IsTurn, Seen}
+use Rattle.xp_lines.specs.Turns.{Here, IsTurn, Seen}
 use Rattle.xp_lines.specs.Wire.{Took}
 use Rattle.xp_lines.proofs.Written.{rest_lost, took_both}
 use Rattle.xp_lines.specs.steps.Offering.{Tells, event_on}
-use Rattle.xp_lines.specs.steps.Sessions.{AreOver, Closes, Connects, GoesBy, GoesOn, Here, IsHere, IsOn, IsThere, Leaves, Steps}
-use Rattle.xp_lines.specs.declared.offering.Stop.{Stop}
+use Rattle.xp_lines.specs.steps.Sessions.{AreOver, Closes, Connects, GoesBy, GoesOn, IsHere, IsOn, IsThere, Leaves, Steps}
+use Rattle.xp_lines.specs.declared.over.Over.{Over}
 use Rattle.xp_lines.specs.declared.line.EndReason.{EndReason}
 use Rattle.xp_lines.specs.declared.line.EndReason.TheVariants.{Stopped}
 use Rattle.xp_lines.specs.declared.turning.TurnOutcome.{TurnOutcome}
@@ -81,9 +81,9 @@ module _ {A : Type 0} where
   goes_not old why new same not_stopped = record { gone = new; goes = inr same; stopped = λ stopped. absurd (not_stopped stopped); drops = drops_nothing new }
 
   -- the line ends for another reason, and its Down was offered
-  pub goes_told : (old : Pass A) (result : Result Receipt Stop) (new : Pass A) (why : EndReason) → Tells old Down result new → (why ≡ Stopped → ⊥) → GoesBy why old new
+  pub goes_told : (old : Pass A) (result : Result Receipt Over) (new : Pass A) (why : EndReason) → Tells old Down result new → (why ≡ Stopped → ⊥) → GoesBy why old new
   goes_told old (Ok done) new why tells not_stopped = goes_down old new why new tells (drops_nothing new)
-  goes_told old (Err stop) new why tells not_stopped = goes_not old why new tells.1 not_stopped
+  goes_told old (Err over) new why tells not_stopped = goes_not old why new tells.1 not_stopped
 
   goes_by : (after : TurnOutcome) (last gone : Pass A) → IsThere after → Gains last (Down ∷ []) gone ⊎ (gone ≡ last) → Goes after last gone
   goes_by Linked last gone there goes = goes
@@ -161,7 +161,7 @@ module _ {A : Type 0} (subs : Tables) (of_link : Option (List ℕ) → Option (L
   pub on_nothing : (pass : Pass A) → IsOn subs of_link GoesOn pass None pass
   on_nothing pass = record { sessions = []; between = pass; over = refl; rest = drops_nothing pass }
 
-  there_here : (old : Pass A) (link : Option (Here A)) (pass : Pass A) → IsHere subs of_link GoesOn old link pass → IsHere subs of_link IsThere old link pass
+  there_here : (old : Pass A) (link : Option Here) (pass : Pass A) → IsHere subs of_link GoesOn old link pass → IsHere subs of_link IsThere old link pass
   there_here old None pass drops = drops
   there_here old (Some (connection, seen)) pass there = record {
     came = there.came;
@@ -179,14 +179,14 @@ module _ {A : Type 0} (subs : Tables) (of_link : Option (List ℕ) → Option (L
   }
 
   -- the turns have come to their end
-  pub on_there : (first : Pass A) (link : Option (Here A)) (pass : Pass A) → IsOn subs of_link GoesOn first link pass → IsOn subs of_link IsThere first link pass
+  pub on_there : (first : Pass A) (link : Option Here) (pass : Pass A) → IsOn subs of_link GoesOn first link pass → IsOn subs of_link IsThere first link pass
   on_there first link pass on = record { sessions = on.sessions; between = on.between; over = on.over; rest = there_here on.between link pass on.rest }
 
   -- what a turn comes to: the turns end with it, or go on after it
-  abbrev pub OnAfter : Pass A → Option (Here A) → Option EndReason → Pass A → Type 0
+  abbrev pub OnAfter : Pass A → Option Here → Option EndReason → Pass A → Type 0
   OnAfter first left end new = IsOn subs of_link IsThere first left new × (end ≡ None → IsOn subs of_link GoesOn first left new)
 
-  connected : (first : Pass A) (pass : Pass A) (left : Option (Here A)) (end : Option EndReason) (new : Pass A)
+  connected : (first : Pass A) (pass : Pass A) (left : Option Here) (end : Option EndReason) (new : Pass A)
       → IsOn subs of_link GoesOn first None pass → Connects subs of_link pass left end new → IsOn subs of_link GoesOn first left new
   connected first pass None end new on drops =
       record { sessions = on.sessions; between = on.between; over = on.over; rest = drops_both on.between pass new on.rest drops }
@@ -210,8 +210,8 @@ module _ {A : Type 0} (subs : Tables) (of_link : Option (List ℕ) → Option (L
     };
   }
 
-  module _ (first : Pass A) (connection : ℕ) (pass : Pass A) (seen : Seen A) (new : Pass A) (on : IsOn subs of_link GoesOn first (Some (connection, seen)) pass)
-      (after : TurnOutcome) (now : ℕ) (wanting : Bool) (new_seen : Seen A) (is_turn : IsTurn (modulus_of subs pass.line) now connection pass seen after wanting new new_seen)
+  module _ (first : Pass A) (connection : ℕ) (pass : Pass A) (seen : Seen) (new : Pass A) (on : IsOn subs of_link GoesOn first (Some (connection, seen)) pass)
+      (after : TurnOutcome) (now : ℕ) (wanting : Bool) (new_seen : Seen) (is_turn : IsTurn (modulus_of subs pass.line) now connection pass seen after wanting new new_seen)
       (moved : of_link new_seen.pushed new_seen.pulled) (line : new.line ≡ pass.line) where
     this : Left A
     this = record { after = after; pass = new; seen = new_seen }
@@ -274,9 +274,9 @@ module _ {A : Type 0} (subs : Tables) (of_link : Option (List ℕ) → Option (L
         } in
         record { sessions = on.sessions ++ session ∷ []; between = new; over = over_more first on.sessions on.between session on.over is is_dropped; rest = drops_nothing new }
 
-  turned : (first : Pass A) (connection : ℕ) (pass : Pass A) (seen : Seen A) (left : Option (Here A)) (end : Option EndReason) (new : Pass A)
+  turned : (first : Pass A) (connection : ℕ) (pass : Pass A) (seen : Seen) (left : Option Here) (end : Option EndReason) (new : Pass A)
       → IsOn subs of_link GoesOn first (Some (connection, seen)) pass
-      → (after : TurnOutcome) (now : ℕ) (wanting : Bool) (new_seen : Seen A) → IsTurn (modulus_of subs pass.line) now connection pass seen after wanting new new_seen
+      → (after : TurnOutcome) (now : ℕ) (wanting : Bool) (new_seen : Seen) → IsTurn (modulus_of subs pass.line) now connection pass seen after wanting new new_seen
       → of_link new_seen.pushed new_seen.pulled → new.line ≡ pass.line → Leaves after (connection, new_seen) left end → OnAfter first left end new
   turned first connection pass seen left end new on Linked now wanting new_seen is moved line leaves =
       subst (λ l. OnAfter first l end new) (sym leaves)
@@ -295,7 +295,7 @@ module _ {A : Type 0} (subs : Tables) (of_link : Option (List ℕ) → Option (L
       (still_open first connection pass seen new on Journal now wanting new_seen is moved line IsThere tt, λ none. absurd (leaves.1 none))
 
   -- one turn more
-  pub on_more : (first : Pass A) (link : Option (Here A)) (pass : Pass A) (left : Option (Here A)) (end : Option EndReason) (new : Pass A)
+  pub on_more : (first : Pass A) (link : Option Here) (pass : Pass A) (left : Option Here) (end : Option EndReason) (new : Pass A)
       → IsOn subs of_link GoesOn first link pass → Steps subs of_link pass link left end new → OnAfter first left end new
   on_more first None pass left end new on steps =
       let on_now = connected first pass left end new on steps in (on_there first left new on_now, λ _. on_now)
@@ -308,7 +308,7 @@ module _ {A : Type 0} (subs : Tables) (of_link : Option (List ℕ) → Option (L
       (sessions : List (PastSession A)) × AreSessions subs of_link first sessions new × (why ≡ Stopped → AllByRecursion IsGone sessions × EndsWritten subs of_link sessions new)
 
   -- The link that was there goes as the line is stopped.
-  pub record GoneWith (first : Pass A) (connection : ℕ) (seen : Seen A) (gone : Pass A) : Type 0 where
+  pub record GoneWith (first : Pass A) (connection : ℕ) (seen : Seen) (gone : Pass A) : Type 0 where
     pub sessions : List (PastSession A)
     pub session : PastSession A
     pub are : AreSessions subs of_link first (sessions ++ session ∷ []) session.gone
@@ -317,7 +317,7 @@ module _ {A : Type 0} (subs : Tables) (of_link : Option (List ℕ) → Option (L
     pub connection_is : session.connection ≡ connection
     pub seen_is : (left_at_last session).seen ≡ seen
 
-  pub gone_with : (first : Pass A) (connection : ℕ) (seen : Seen A) (pass gone : Pass A) → IsOn subs of_link IsThere first (Some (connection, seen)) pass → Gains pass (Down ∷ []) gone
+  pub gone_with : (first : Pass A) (connection : ℕ) (seen : Seen) (pass gone : Pass A) → IsOn subs of_link IsThere first (Some (connection, seen)) pass → Gains pass (Down ∷ []) gone
       → GoneWith first connection seen gone
   gone_with first connection seen pass gone on gains =
       let there = on.rest in
@@ -342,7 +342,7 @@ module _ {A : Type 0} (subs : Tables) (of_link : Option (List ℕ) → Option (L
       }
 
   -- the line has ended
-  pub ends_with : (first : Pass A) (link : Option (Here A)) (pass : Pass A) (why : EndReason) (new : Pass A) → IsOn subs of_link IsThere first link pass → Closes link why pass new → EndsWith first why new
+  pub ends_with : (first : Pass A) (link : Option Here) (pass : Pass A) (why : EndReason) (new : Pass A) → IsOn subs of_link IsThere first link pass → Closes link why pass new → EndsWith first why new
   ends_with first None pass why new on closes = (
     on.sessions,
     subst (λ sessions. AreSessions subs of_link first sessions new) (append-nil on.sessions)
@@ -379,7 +379,7 @@ module _ {A : Type 0} (subs : Tables) (of_link : Option (List ℕ) → Option (L
   is_down first why new ends stopped = (ends.0, ends.1, (ends.2 stopped).0, (ends.2 stopped).1)
 
   -- a link came, after outputs were dropped
-  pub connects_later : (old before : Pass A) (left : Option (Here A)) (end : Option EndReason) (new : Pass A) → Drops old before → Connects subs of_link before left end new → Connects subs of_link old left end new
+  pub connects_later : (old before : Pass A) (left : Option Here) (end : Option EndReason) (new : Pass A) → Drops old before → Connects subs of_link before left end new → Connects subs of_link old left end new
   connects_later old before None end new drops later = drops_both old before new drops later
   connects_later old before (Some (connection, seen)) end new drops (comes, fresh, moved, line, none) =
       (comes_later subs old before connection new drops comes, fresh, moved, line ∙ drops.1.line, none)

@@ -1,17 +1,16 @@
 -- What a line takes and writes, one output at a time.
-use Rattle.std.proofs.Common.{◌≡◌, ℕ, ◌+◌, ◌<◌, ◌≤◌, ◌==◌, List, [], ◌∷◌, ◌++◌, length, length-append, arith, refl, sym, ap, ◌∙◌, append_assoc, append-nil, subst, Option, cond, true, false, inl, inr}
+use Rattle.std.proofs.Common.{◌≡◌, ℕ, ◌+◌, ◌<◌, ◌≤◌, ◌==◌, List, [], ◌∷◌, ◌++◌, length, length-append, arith, refl, sym, ap, ◌∙◌, append_assoc, append-nil, subst, Option, None, Some, cond, true, false, inl, inr}
 use Rattle.std.proofs.lemmas.Grind.{flat_map-append}
 use Rattle.xp_packets.specs.declared.modulus.Modulus.{Modulus}
 use Rattle.xp_step.specs.declared.output.Outgoing.{Outgoing}
 use Rattle.xp_lock.specs.Passes.{Pass}
-use Rattle.xp_lines.specs.steps.Ended.{is_lost}
 use Rattle.xp_lines.specs.Flow.{Leaves}
 use Rattle.xp_lines.specs.AnswerTimer.{since_after_put, since_after_all}
 use Rattle.xp_lines.specs.Wire.{NoneCloses, Took, Writes, WritesRest, carried, closes, wire}
-use Rattle.xp_lines.specs.steps.Wire.{Fills}
-use Rattle.xp_lines.specs.declared.answer_timer.AnswerTimer.{AnswerTimer}
-use Rattle.xp_lines.specs.declared.writing.Ended.{Ended}
-use Rattle.xp_lines.specs.declared.writing.Ended.TheVariants as ends
+use Rattle.xp_lines.specs.steps.Wire.{Fills, TakenOut, WrittenOut}
+use Rattle.xp_lines.specs.Reads.{keeps, stays}
+use Rattle.xp_lines.specs.declared.over.Over.{Over}
+use Rattle.xp_lines.specs.declared.over.Over.TheVariants as overs
 use Rattle.xp_lines.proofs.Octets.{appends_both, appends_nothing}
 
 module _ {A : Type 0} where
@@ -81,84 +80,66 @@ module _ {A : Type 0} where
 
   -- what was taken so far, which is at most so many outputs of which none closes the connection, and since when an incoming call
   -- waits by it
-  pub record Filled (modulus : Modulus) (connection : ℕ) (old : Pass A) (unwritten : List ℕ) (before : AnswerTimer) (now : Pass A) (left : List ℕ) (timer : AnswerTimer) (count : ℕ) : Type 0 where
-    pub fills : Fills modulus connection old unwritten now left []
-    pub rung_is : timer ≡ record before { since = since_after_all before.now connection before.since fills.items }
+  pub record Filled (modulus : Modulus) (now connection : ℕ) (old : Pass A) (unwritten : List ℕ) (before : Option ℕ) (pass : Pass A) (left : List ℕ) (since : Option ℕ) (count : ℕ) : Type 0 where
+    pub fills : Fills modulus connection old unwritten pass left []
+    pub since_is : since ≡ since_after_all now connection before fills.items
     pub counted : length fills.items ≤ count
     pub none_closes : NoneCloses connection fills.items
 
-  pub filled_nothing : (modulus : Modulus) (connection : ℕ) (old : Pass A) (unwritten : List ℕ) (timer : AnswerTimer) → Filled modulus connection old unwritten timer old unwritten timer 0
+  pub filled_nothing : (modulus : Modulus) (now connection : ℕ) (old : Pass A) (unwritten : List ℕ) (since : Option ℕ) → Filled modulus now connection old unwritten since old unwritten since 0
   unfolding fills_nothing
-  filled_nothing modulus connection old unwritten timer = record { fills = fills_nothing modulus connection old unwritten; rung_is = refl; counted = omega arith; none_closes = tt }
+  filled_nothing modulus now connection old unwritten since = record { fills = fills_nothing modulus connection old unwritten; since_is = refl; counted = omega arith; none_closes = tt }
 
-  rung_then : (connection : ℕ) (before timer later : AnswerTimer) (items : List (Outgoing A)) (item : Outgoing A)
-      → timer ≡ record before { since = since_after_all before.now connection before.since items }
-      → later ≡ record timer { since = cond (item.connection == connection) (since_after_put timer.now timer.since item.put) timer.since }
-      → later ≡ record before { since = since_after_all before.now connection before.since (items ++ item ∷ []) }
-  rung_then connection before timer later items item was rang =
-      rang
-      ∙ ap (λ (b : AnswerTimer). record b { since = cond (item.connection == connection) (since_after_put b.now b.since item.put) b.since }) was
-      ∙ ap (λ since. record before { since = since }) (sym (rung_more before.now connection before.since items item))
+  rung_then : (now connection : ℕ) (before since later : Option ℕ) (items : List (Outgoing A)) (item : Outgoing A)
+      → since ≡ since_after_all now connection before items
+      → later ≡ cond (item.connection == connection) (since_after_put now since item.put) since
+      → later ≡ since_after_all now connection before (items ++ item ∷ [])
+  rung_then now connection before since later items item was rang =
+      rang ∙ ap (λ s. cond (item.connection == connection) (since_after_put now s item.put) s) was ∙ sym (rung_more now connection before items item)
 
-  pub filled_more : (modulus : Modulus) (connection : ℕ) (old : Pass A) (unwritten : List ℕ) (before : AnswerTimer) (now : Pass A) (left : List ℕ) (timer : AnswerTimer) (count : ℕ) (item : Outgoing A) (next : Pass A) (more : List ℕ) (later : AnswerTimer)
-      → Filled modulus connection old unwritten before now left timer count → count < 64 → next ≡ record now { taken = now.taken ++ item ∷ [] } → more ≡ left ++ carried modulus connection item
-      → later ≡ record timer { since = cond (item.connection == connection) (since_after_put timer.now timer.since item.put) timer.since }
+  pub filled_more : (modulus : Modulus) (now connection : ℕ) (old : Pass A) (unwritten : List ℕ) (before : Option ℕ) (pass : Pass A) (left : List ℕ) (since : Option ℕ) (count : ℕ) (item : Outgoing A) (next : Pass A) (more : List ℕ) (later : Option ℕ)
+      → Filled modulus now connection old unwritten before pass left since count → count < 64 → next ≡ record pass { taken = pass.taken ++ item ∷ [] } → more ≡ left ++ carried modulus connection item
+      → later ≡ cond (item.connection == connection) (since_after_put now since item.put) since
       → closes connection item ≡ false
-      → Filled modulus connection old unwritten before next more later (count + 1)
+      → Filled modulus now connection old unwritten before next more later (count + 1)
   unfolding fills_more fills_with
-  filled_more modulus connection old unwritten before now left timer count item next more later so_far below taken appended rang stays_open = record {
-    fills = fills_more modulus connection old unwritten now left item next more count so_far.fills so_far.counted below taken appended;
-    rung_is = rung_then connection before timer later so_far.fills.items item so_far.rung_is rang;
+  filled_more modulus now connection old unwritten before pass left since count item next more later so_far below taken appended rang stays_open = record {
+    fills = fills_more modulus connection old unwritten pass left item next more count so_far.fills so_far.counted below taken appended;
+    since_is = rung_then now connection before since later so_far.fills.items item so_far.since_is rang;
     counted = one_more so_far.fills.items item count so_far.counted;
     none_closes = none_closes_both connection so_far.fills.items (item ∷ []) so_far.none_closes (stays_open, tt);
   }
 
-  -- what the taking of outputs came to
-  abbrev pub TakenOut : Modulus → ℕ → Pass A → List ℕ → AnswerTimer → Ended → Pass A → List ℕ → AnswerTimer → Type 0
-  TakenOut modulus connection old unwritten before ended new left after =
-      (lost : List ℕ) × (fills : Fills modulus connection old unwritten new left lost)
-      × (is_lost ended ≡ false → (lost ≡ []) × (after ≡ record before { since = since_after_all before.now connection before.since fills.items }))
-      × (ended ≡ ends.Open → NoneCloses connection fills.items)
-
   -- no output is there any more, or enough were taken
-  pub filled_out : (modulus : Modulus) (connection : ℕ) (old : Pass A) (unwritten : List ℕ) (before : AnswerTimer) (now : Pass A) (left : List ℕ) (timer : AnswerTimer) (count : ℕ) (next : Pass A) (ended : Ended)
-      → Filled modulus connection old unwritten before now left timer count → next ≡ now → TakenOut modulus connection old unwritten before ended next left timer
-  filled_out modulus connection old unwritten before now left timer count next ended filled same = subst
-      (λ p. TakenOut modulus connection old unwritten before ended p left timer) (sym same)
-      ([], filled.fills, λ _. (refl, filled.rung_is), λ _. filled.none_closes)
+  pub filled_out : (modulus : Modulus) (now connection : ℕ) (old : Pass A) (unwritten : List ℕ) (before : Option ℕ) (pass : Pass A) (left : List ℕ) (since : Option ℕ) (count : ℕ) (next : Pass A)
+      → Filled modulus now connection old unwritten before pass left since count → next ≡ pass → TakenOut modulus now connection old unwritten before None next left since
+  filled_out modulus now connection old unwritten before pass left since count next filled same = subst
+      (λ p. TakenOut modulus now connection old unwritten before None p left since) (sym same)
+      ([], filled.fills, λ _. (refl, filled.since_is), λ _. filled.none_closes)
 
   -- the last output closes the connection
-  pub filled_closed : (modulus : Modulus) (connection : ℕ) (old : Pass A) (unwritten : List ℕ) (before : AnswerTimer) (now : Pass A) (left : List ℕ) (timer : AnswerTimer) (count : ℕ) (item : Outgoing A) (next : Pass A) (more : List ℕ) (later : AnswerTimer) (ended : Ended)
-      → Filled modulus connection old unwritten before now left timer count → count < 64 → next ≡ record now { taken = now.taken ++ item ∷ [] } → more ≡ left ++ carried modulus connection item
-      → later ≡ record timer { since = cond (item.connection == connection) (since_after_put timer.now timer.since item.put) timer.since }
-      → ended ≡ ends.Over
-      → TakenOut modulus connection old unwritten before ended next more later
+  pub filled_closed : (modulus : Modulus) (now connection : ℕ) (old : Pass A) (unwritten : List ℕ) (before : Option ℕ) (pass : Pass A) (left : List ℕ) (since : Option ℕ) (count : ℕ) (item : Outgoing A) (next : Pass A) (more : List ℕ) (later : Option ℕ)
+      → Filled modulus now connection old unwritten before pass left since count → count < 64 → next ≡ record pass { taken = pass.taken ++ item ∷ [] } → more ≡ left ++ carried modulus connection item
+      → later ≡ cond (item.connection == connection) (since_after_put now since item.put) since
+      → TakenOut modulus now connection old unwritten before (Some overs.Link) next more later
   unfolding fills_more fills_with
-  filled_closed modulus connection old unwritten before now left timer count item next more later ended so_far below taken appended rang over = (
+  filled_closed modulus now connection old unwritten before pass left since count item next more later so_far below taken appended rang = (
     [],
-    fills_more modulus connection old unwritten now left item next more count so_far.fills so_far.counted below taken appended,
-    λ _. (refl, rung_then connection before timer later so_far.fills.items item so_far.rung_is rang),
-    λ is_open. absurd (let both : ends.Over ≡ ends.Open = sym over ∙ is_open in cc),
+    fills_more modulus connection old unwritten pass left item next more count so_far.fills so_far.counted below taken appended,
+    λ _. (refl, rung_then now connection before since later so_far.fills.items item so_far.since_is rang),
+    λ is. absurd (let never : false ≡ true = is in cc),
   )
 
   -- the last output is lost
-  pub filled_lost : (modulus : Modulus) (connection : ℕ) (old : Pass A) (unwritten : List ℕ) (before : AnswerTimer) (now : Pass A) (left : List ℕ) (timer : AnswerTimer) (count : ℕ) (item : Outgoing A) (next : Pass A) (same : List ℕ) (later : AnswerTimer) (ended : Ended)
-      → Filled modulus connection old unwritten before now left timer count → count < 64 → next ≡ record now { taken = now.taken ++ item ∷ [] } → same ≡ left
-      → ended ≡ ends.Lost
-      → TakenOut modulus connection old unwritten before ended next same later
-  filled_lost modulus connection old unwritten before now left timer count item next same later ended so_far below taken kept lost = (
+  pub filled_lost : (modulus : Modulus) (now connection : ℕ) (old : Pass A) (unwritten : List ℕ) (before : Option ℕ) (pass : Pass A) (left : List ℕ) (since : Option ℕ) (count : ℕ) (item : Outgoing A) (next : Pass A) (same : List ℕ) (later : Option ℕ)
+      → Filled modulus now connection old unwritten before pass left since count → count < 64 → next ≡ record pass { taken = pass.taken ++ item ∷ [] } → same ≡ left
+      → TakenOut modulus now connection old unwritten before (Some overs.Memory) next same later
+  filled_lost modulus now connection old unwritten before pass left since count item next same later so_far below taken kept = (
     carried modulus connection item,
-    fills_lost modulus connection old unwritten now left item next same count so_far.fills so_far.counted below taken kept,
-    λ not_lost. absurd (let both : true ≡ false = sym (ap is_lost lost) ∙ not_lost in cc),
-    λ is_open. absurd (let both : ends.Lost ≡ ends.Open = sym lost ∙ is_open in cc),
+    fills_lost modulus connection old unwritten pass left item next same count so_far.fills so_far.counted below taken kept,
+    λ is. absurd (let never : false ≡ true = is in cc),
+    λ is. absurd (let never : false ≡ true = is in cc),
   )
-
-  -- what the writing of a turn came to
-  abbrev pub WrittenOut : Modulus → ℕ → Pass A → List ℕ → Option (List ℕ) → AnswerTimer → Ended → Pass A → List ℕ → Option (List ℕ) → AnswerTimer → Type 0
-  WrittenOut modulus connection old unwritten before timer ended new left after later =
-      (lost : List ℕ) × (writes : Writes modulus connection old unwritten before new left after lost)
-      × (is_lost ended ≡ false → (lost ≡ []) × (later ≡ record timer { since = since_after_all timer.now connection timer.since writes.items }))
-      × (ended ≡ ends.Open → NoneCloses connection writes.items)
 
   -- the link does not take all that was unwritten
   writes_first : (modulus : Modulus) (connection : ℕ) (old : Pass A) (unwritten : List ℕ) (before : Option (List ℕ)) (left : List ℕ) (after : Option (List ℕ))
@@ -173,10 +154,10 @@ module _ {A : Type 0} where
     in_turn = inl refl;
   }
 
-  pub written_first : (modulus : Modulus) (connection : ℕ) (old : Pass A) (unwritten : List ℕ) (before : Option (List ℕ)) (left : List ℕ) (after : Option (List ℕ)) (timer : AnswerTimer) (ended : Ended)
-      → Leaves before after unwritten left → WrittenOut modulus connection old unwritten before timer ended old left after timer
+  pub written_first : (modulus : Modulus) (now connection : ℕ) (old : Pass A) (unwritten : List ℕ) (before : Option (List ℕ)) (left : List ℕ) (after : Option (List ℕ)) (since : Option ℕ) (over : Option Over)
+      → Leaves before after unwritten left → WrittenOut modulus now connection old unwritten before since over old left after since
   unfolding writes_first
-  written_first modulus connection old unwritten before left after timer ended leaves =
+  written_first modulus now connection old unwritten before left after since over leaves =
       ([], writes_first modulus connection old unwritten before left after leaves, λ _. (refl, refl), λ _. tt)
 
   -- what was unwritten was pushed, outputs were taken, and pushed
@@ -198,26 +179,19 @@ module _ {A : Type 0} where
         inr (second.pushed, ap (λ xs. xs ++ second.pushed) (sym (append-nil first.pushed) ∙ ap (λ xs. first.pushed ++ xs) (sym none) ∙ first.whole));
   }
 
-  pub written_all : (modulus : Modulus) (connection : ℕ) (old : Pass A) (unwritten : List ℕ) (before : Option (List ℕ)) (rest : List ℕ) (between : Option (List ℕ)) (new : Pass A) (filled left : List ℕ) (after : Option (List ℕ)) (timer later : AnswerTimer) (taking ended : Ended)
-      → Leaves before between unwritten rest → rest ≡ [] → TakenOut modulus connection old rest timer taking new filled later
-      → Leaves between after filled left → is_lost ended ≡ is_lost taking → (ended ≡ ends.Open → taking ≡ ends.Open)
-      → WrittenOut modulus connection old unwritten before timer ended new left after later
-  unfolding writes_all
-  written_all modulus connection old unwritten before rest between new filled left after timer later taking ended first none (lost, fills, rang, none_closes) second same still_open = (
-    lost,
-    writes_all modulus connection old unwritten before rest between new filled lost left after first none fills second,
-    λ not_lost. rang (sym same ∙ not_lost),
-    λ is_open. none_closes (still_open is_open),
-  )
-
   -- the same, where the outputs were taken by the line's modulus under another name
-  pub written_by : (modulus other : Modulus) (connection : ℕ) (old : Pass A) (unwritten : List ℕ) (before : Option (List ℕ)) (rest : List ℕ) (between : Option (List ℕ)) (new : Pass A) (filled left : List ℕ) (after : Option (List ℕ)) (timer later : AnswerTimer) (taking ended : Ended)
-      → Leaves before between unwritten rest → rest ≡ [] → other ≡ modulus → TakenOut other connection old rest timer taking new filled later
-      → Leaves between after filled left → is_lost ended ≡ is_lost taking → (ended ≡ ends.Open → taking ≡ ends.Open)
-      → WrittenOut modulus connection old unwritten before timer ended new left after later
-  written_by modulus other connection old unwritten before rest between new filled left after timer later taking ended first none same_modulus taken second same still_open =
-      written_all modulus connection old unwritten before rest between new filled left after timer later taking ended first none
-      (subst (λ m. TakenOut m connection old rest timer taking new filled later) same_modulus taken) second same still_open
+  pub written_by : (modulus other : Modulus) (now connection : ℕ) (old : Pass A) (unwritten : List ℕ) (before : Option (List ℕ)) (rest : List ℕ) (between : Option (List ℕ)) (new : Pass A) (filled left : List ℕ) (after : Option (List ℕ)) (since later : Option ℕ) (taking over : Option Over)
+      → Leaves before between unwritten rest → rest ≡ [] → other ≡ modulus → TakenOut other now connection old rest since taking new filled later
+      → Leaves between after filled left → (keeps over ≡ true → keeps taking ≡ true) → (stays over ≡ true → stays taking ≡ true)
+      → WrittenOut modulus now connection old unwritten before since over new left after later
+  unfolding writes_all
+  written_by modulus other now connection old unwritten before rest between new filled left after since later taking over first none same_modulus taken second keeps_more stays_more =
+      let out : TakenOut modulus now connection old rest since taking new filled later = subst (λ m. TakenOut m now connection old rest since taking new filled later) same_modulus taken in (
+        out.0,
+        writes_all modulus connection old unwritten before rest between new filled out.0 left after first none out.1 second,
+        λ is. out.2 (keeps_more is),
+        λ is. out.3 (stays_more is),
+      )
 
   -- nothing was written yet
   pub rest_nothing : (modulus : Modulus) (connection : ℕ) (old : Pass A) (unwritten : List ℕ) (before : Option (List ℕ)) → WritesRest modulus connection old unwritten before old unwritten before []

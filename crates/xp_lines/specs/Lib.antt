@@ -2,7 +2,6 @@ pub mod AddUp
 pub mod AnswerTimer
 pub mod Flow
 pub mod FrameEvents
-pub mod Gates
 pub mod Offers
 pub mod Reads
 pub mod Recorded

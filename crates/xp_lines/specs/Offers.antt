@@ -1,5 +1,5 @@
 -- The events that a line offers, and the entries that its pass gains by them.
-use Rattle.std.specs.Prelude.{◌≡◌, ℕ, Bool, true, false, List, ◌++◌, map, Option, Some, None, option_to_list}
+use Rattle.std.specs.Prelude.{◌≡◌, ℕ, Bool, true, List, [], ◌++◌, map}
 use Rattle.xp_packets.specs.declared.modulus.Modulus.{Modulus}
 use Rattle.xp_step.specs.declared.entry.Entry.{Entry}
 use Rattle.xp_step.specs.declared.event.What.{What}
@@ -23,14 +23,14 @@ module _ {A : Type 0} where
     pub own_entries_are : own_entries new ≡ own_entries old ++ entries
     pub events : map happened entries ≡ map (on_line old.line) whats
 
-  -- The event that waited, and then the packets that waited, were offered in order. The offering may have stopped before the
-  -- end. Where nothing was lost, the event and the packets that were not offered still wait.
-  pub record Offers (modulus : Modulus) (held : Option (What A)) (frames : List (List ℕ)) (whats : List (What A)) (on : Bool) (left_held : Option (What A)) (left_frames : List (List ℕ)) : Type 0 where
+  -- The packets that waited were offered in order. The offering may have stopped before the end. Where nothing was lost, the
+  -- packets that were not offered still wait.
+  pub record Offers (modulus : Modulus) (frames : List (List ℕ)) (whats : List (What A)) (on : Bool) (left : List (List ℕ)) : Type 0 where
     pub packets : List (List ℕ)
     pub unread : List (List ℕ)
     pub frames_are : frames ≡ packets ++ unread
     pub read : List (What A)
     pub read_as : AreReadAs modulus packets read
     pub unoffered : List (What A)
-    pub in_order : option_to_list held ++ read ≡ whats ++ unoffered
-    pub kept : on ≡ true → (unread ≡ left_frames) × (unoffered ≡ option_to_list left_held)
+    pub in_order : read ≡ whats ++ unoffered
+    pub kept : on ≡ true → (unread ≡ left) × (unoffered ≡ [])

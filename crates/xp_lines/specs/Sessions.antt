@@ -20,7 +20,7 @@ pub record PastSession (A : Type 0) : Type 0 where
   pub connection : ℕ
   -- the pass and the link as the exchange had accepted that it came, and then after each turn
   pub came : Pass A
-  pub seen : Seen A
+  pub seen : Seen
   pub turns : List (Left A)
   -- the pass at the end
   pub gone : Pass A

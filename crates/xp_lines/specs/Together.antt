@@ -1,5 +1,5 @@
 -- What all turns of a line on one link add up to.
-use Rattle.std.specs.Prelude.{◌≡◌, ◌⊎◌, ℕ, ◌+◌, ◌≤◌, ◌==◌, Bool, true, false, cond, List, [], ◌∷◌, ◌++◌, filter, map, Option, None, Some, option_to_list}
+use Rattle.std.specs.Prelude.{◌≡◌, ◌⊎◌, ℕ, ◌+◌, ◌≤◌, ◌==◌, Bool, true, false, cond, List, [], ◌∷◌, ◌++◌, filter, map, Option, None, Some}
 use Rattle.std.specs.Io.KnownBytes.{Appends}
 use Rattle.xp_frames.specs.Frame.{HasNoBadHeader}
 use Rattle.xp_step.specs.declared.entry.Entry.{Entry}
@@ -24,7 +24,7 @@ use Rattle.xp_lines.specs.declared.turning.TurnOutcome.TheVariants.{Linked, Drop
 pub record Left (A : Type 0) : Type 0 where
   pub after : TurnOutcome
   pub pass : Pass A
-  pub seen : Seen A
+  pub seen : Seen
 
 abbrev pub is_linked : TurnOutcome → Bool
 is_linked Linked = true
@@ -38,6 +38,14 @@ abbrev pub waits : Option ℕ → ℕ
 waits None = 0
 waits (Some since) = 1
 
+-- The link has just come: no octet was read, nothing waits, and no call waits for its answer.
+pub record IsFresh (seen : Seen) : Type 0 where
+  pub owed : seen.owed ≡ false
+  pub waiting : seen.frames.waiting ≡ []
+  pub rest : seen.frames.rest ≡ []
+  pub unwritten : seen.unwritten ≡ []
+  pub unanswered_since : seen.unanswered_since ≡ None
+
 module _ {A : Type 0} where
   -- Turns may follow where the link stays, or where its Down waits to be offered. Else the turn was the last.
   abbrev pub MayFollow : TurnOutcome → List (Left A) → Type 0
@@ -48,7 +56,7 @@ module _ {A : Type 0} where
   MayFollow Journal turns = turns ≡ []
 
   -- each turn starts where the one before left the line
-  abbrev pub AreTurns : Modulus → ℕ → Pass A → Seen A → List (Left A) → Type 0
+  abbrev pub AreTurns : Modulus → ℕ → Pass A → Seen → List (Left A) → Type 0
   AreTurns modulus connection pass seen [] = Unit {0}
   AreTurns modulus connection pass seen (left ∷ turns) =
       ((now : ℕ) × (wanting : Bool) × IsTurn modulus now connection pass seen left.after wanting left.pass left.seen) × MayFollow left.after turns × AreTurns modulus connection left.pass left.seen turns
@@ -57,14 +65,6 @@ module _ {A : Type 0} where
   abbrev pub last_of : Left A → List (Left A) → Left A
   last_of came [] = came
   last_of came (left ∷ turns) = last_of left turns
-
-  -- The link has just come: no octet was read, nothing waits, and no call waits for its answer.
-  pub record IsFresh (seen : Seen A) : Type 0 where
-    pub held : seen.held ≡ None
-    pub waiting : seen.frames.waiting ≡ []
-    pub rest : seen.frames.rest ≡ []
-    pub unwritten : seen.unwritten ≡ []
-    pub unanswered_since : seen.unanswered_since ≡ None
 
   -- any event but the expiry of an incoming call, which no octets bring
   abbrev pub is_no_expiry : What A → Bool
@@ -106,7 +106,7 @@ module _ {A : Type 0} where
   -- frames of packets. Each packet in order is an event that the line's own entries have. Between them stand expiries, no more
   -- than incoming calls, and last the Down. While the link stays nothing is lost: what is not yet pushed, read or offered waits.
   -- And then no output closed the connection, and no bad header came.
-  pub record Together (modulus : Modulus) (connection : ℕ) (old : Pass A) (came : Seen A) (linked : Bool) (new : Pass A) (now : Seen A) : Type 0 where
+  pub record Together (modulus : Modulus) (connection : ℕ) (old : Pass A) (came : Seen) (linked : Bool) (new : Pass A) (now : Seen) : Type 0 where
     pub line : new.line ≡ old.line
     pub items : List (Outgoing A)
     pub taken : new.taken ≡ old.taken ++ items
@@ -140,14 +140,14 @@ module _ {A : Type 0} where
     pub events : map happened entries ≡ map (on_line old.line) (whats ++ closing)
     pub none_closes : linked ≡ true → NoneCloses connection items
     pub sound : linked ≡ true → HasNoBadHeader now.frames.rest
-    pub kept : linked ≡ true → (unsent ≡ []) × (lost ≡ []) × (rest ≡ now.frames.rest) × (unread ≡ now.frames.waiting) × (unoffered ≡ option_to_list now.held) × (closing ≡ [])
+    pub kept : linked ≡ true → (unsent ≡ []) × (lost ≡ []) × (rest ≡ now.frames.rest) × (unread ≡ now.frames.waiting) × (unoffered ≡ []) × (closing ≡ [])
 
   -- the turns up to this one add up
-  abbrev pub IsLeftSo : Modulus → ℕ → Pass A → Seen A → Left A → Type 0
+  abbrev pub IsLeftSo : Modulus → ℕ → Pass A → Seen → Left A → Type 0
   IsLeftSo modulus connection pass came last = Together modulus connection pass came (is_linked last.after) last.pass last.seen
 
 -- The turns on a link add up, from when it came to how the last of them left it.
 abbrev pub TurnsAddUp : Type 0 → Type 0
 TurnsAddUp A =
-    (modulus : Modulus) (connection : ℕ) (pass : Pass A) (came : Seen A) (turns : List (Left A)) → IsFresh came → AreTurns modulus connection pass came turns
+    (modulus : Modulus) (connection : ℕ) (pass : Pass A) (came : Seen) (turns : List (Left A)) → IsFresh came → AreTurns modulus connection pass came turns
     → IsLeftSo modulus connection pass came (last_of (record { after = Linked; pass = pass; seen = came }) turns)

@@ -1,7 +1,5 @@
 -- Definitions that only contracts of private functions cite. No public contract cites one.
-pub mod Ended
 pub mod Offering
-pub mod Offers
 pub mod Reads
 pub mod Serving
 pub mod Sessions

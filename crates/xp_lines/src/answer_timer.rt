@@ -9,45 +9,35 @@ use xp_packets::Packet;
 /// After this many seconds without an answer an incoming call expires (T11, X.25 Annex D).
 const ANSWER_SECONDS: u64 = 180;
 
-/// Since when an incoming call waits for the line's answer, if one does, and the present time. Both are in seconds.
-#[derive(Clone, Copy, PartialEq)]
-pub struct AnswerTimer {
-    pub since: Option<u64>,
-    pub now: u64,
+/// Since when an incoming call waits for the line's answer, once this packet is written to the line: an incoming call begins to
+/// wait, and a clear indication ends the wait. Times are in seconds.
+pub(crate) fn since_after<A: Allocator>(
+    now: u64,
+    since: Option<u64>,
+    packet: &Packet<A>,
+) -> Option<u64>
+    ensures { result ≡ since_after now since packet.now }
+{
+    match packet {
+        Packet::Call { .. } => Some(now),
+        Packet::Clear { .. } => None,
+        _ => since,
+    }
 }
 
-impl AnswerTimer {
-    /// Takes note of a packet that is written to the line: an incoming call begins to wait, and a clear indication ends the
-    /// wait.
-    pub fn packet_written<A: Allocator>(&mut self, packet: &Packet<A>)
-        ensures { self.new ≡ record self.old { since = since_after self.old.now self.old.since packet.now } }
-    {
-        match packet {
-            Packet::Call { .. } => self.since = Some(self.now),
-            Packet::Clear { .. } => self.since = None,
-            _ => {}
-        }
-    }
+/// Since when a call waits, once it is known whether the line sent a packet. Any packet is its answer, and ends the wait.
+pub(crate) fn answered(sent: bool, since: Option<u64>) -> Option<u64>
+    ensures { result ≡ answered sent since }
+{
+    if sent { None } else { since }
+}
 
-    /// Takes note of whether the line sent a packet. Any packet is its answer, and ends the wait.
-    pub fn answer(&mut self, sent: bool)
-        ensures { self.new ≡ record self.old { since = answered sent self.old.since } }
-    {
-        if sent {
-            self.since = None;
-        }
-    }
-
-    /// Whether the call has waited for 180 seconds or more. If so the wait ends, so that a call expires once.
-    pub fn expires(&mut self) -> bool
-        ensures late { result ≡ has_expired self.old.now self.old.since }
-        ensures told { self.new ≡ record self.old { since = answered result self.old.since } }
-    {
-        let late = match self.since {
-            Some(since) => self.now.saturating_sub(since) >= ANSWER_SECONDS,
-            None => false,
-        };
-        self.answer(late);
-        late
+/// Whether a call that waits since then has waited for 180 seconds or more.
+pub(crate) fn is_late(now: u64, since: Option<u64>) -> bool
+    ensures { result ≡ has_expired now since }
+{
+    match since {
+        Some(since) => now.saturating_sub(since) >= ANSWER_SECONDS,
+        None => false,
     }
 }

@@ -10,12 +10,12 @@ use crate::line::LineEnd;
 use crate::served_line::ServedLine;
 use std::alloc::Global;
 use std::vec::IntoIter;
-use xp_links::{Clock, Gate, Port};
+use xp_links::{Clock, Port};
 use xp_seats::Name;
 
 /// Adds how these lines ended.
-pub(crate) fn add_ends<N: Name, P: Port, C: Clock, G: Gate>(
-    lines: Vec<ServedLine<N, P, C, G>>,
+pub(crate) fn add_ends<N: Name, P: Port, C: Clock>(
+    lines: Vec<ServedLine<N, P, C>>,
     ends: Vec<LineEnd<N>>,
 ) -> Vec<LineEnd<N>>
     requires room { vec_len ends + vec_len lines ≤ vec_capacity ends }
@@ -31,8 +31,8 @@ pub(crate) fn add_ends<N: Name, P: Port, C: Clock, G: Gate>(
 }
 
 /// Adds that these lines ended as they have no thread, or that could not be started.
-pub(crate) fn add_unstarted<N: Name, P: Port, C: Clock, G: Gate>(
-    lines: IntoIter<ServedLine<N, P, C, G>, Global>,
+pub(crate) fn add_unstarted<N: Name, P: Port, C: Clock>(
+    lines: IntoIter<ServedLine<N, P, C>, Global>,
     ends: Vec<LineEnd<N>>,
 ) -> Vec<LineEnd<N>>
     requires many { length (into_iter_items lines) ≡ into_iter_len lines }

@@ -2,17 +2,20 @@
 
 ghost use Rattle.std.specs.Prelude.{◌≡◌, None};
 ghost use Rattle.xp_lines.specs.Sessions.{AreMoved, Drops};
-ghost use Rattle.xp_lines.specs.steps.Sessions.{Connects, Steps, TurnsOn, here, seen_on};
+ghost use Rattle.xp_lines.specs.Turns.{seen_on};
+ghost use Rattle.xp_lines.specs.steps.Sessions.{Connects, Steps, TurnsOn, here};
 
-use crate::offering::{Stop, offer};
+use crate::over::Over;
+use crate::seat::Seat;
 use crate::session::Session;
+use crate::shared::Shared;
 use crate::turning::{TurnOutcome, turn};
 use crate::waiting::Waiting;
 use std::alloc::{Allocator, Global};
 use std::sync::Wait;
 use xp_frames::Deframer;
-use xp_links::{Arrived, Clock, Gate, Link, Port};
-use xp_lock::{Exchange, LinePass};
+use xp_links::{Arrived, Clock, Link, Port};
+use xp_lock::LinePass;
 use xp_seats::Name;
 
 /// The most outputs that are dropped before a link comes up: as many as an outbox has places.
@@ -46,83 +49,57 @@ pub struct LineEnd<N: Name, A: Allocator = Global> {
     pub why: EndReason,
 }
 
-/// Halts the exchange where so many charging records are made.
-pub(crate) fn halt_at<N: Name, A: Allocator + Copy, R: Wait>(
-    rt: &R,
-    exchange: &Exchange<N, A>,
-    made: u64,
-    records: u64,
-) {
-    if made >= records {
-        exchange.halt(rt);
-    }
-}
-
 /// The result of one turn of a line, with a link or without one.
 #[derive(Drop)]
 pub(crate) struct Step<L: Link, A: Allocator> {
     /// The line with its link, if it has one.
     pub(crate) session: Option<Session<L, A>>,
-    /// How many charging records there were after the last event that the exchange accepted; 0 if it accepted none.
-    pub(crate) records: u64,
     /// Why the line has ended, if it has.
     pub(crate) end: Option<EndReason>,
 }
 
 /// One turn of a line, on its link if it has one.
-pub(crate) fn have_turn<N: Name, P: Port, C: Clock, G: Gate, A: Allocator + Copy, R: Wait>(
+pub(crate) fn have_turn<N: Name, P: Port, C: Clock, A: Allocator + Copy, R: Wait>(
     rt: &R,
     alloc: A,
-    exchange: &Exchange<N, A>,
-    pass: &mut LinePass<N, A>,
+    shared: &Shared<'_, N, A>,
+    seat: &mut Seat<N, C, A>,
     port: &mut P,
-    clock: &mut C,
-    gate: &mut G,
     session: Option<Session<P::Link, A>>,
 ) -> Step<P::Link, A>
-    ensures line { pass.new.line ≡ pass.old.line }
-    ensures steps { Steps N.subs (AreMoved P.Link.pushed P.Link.pulled) pass.old (here P.Link.pushed P.Link.pulled session) (here P.Link.pushed P.Link.pulled result.session) result.end pass.new }
+    ensures line { seat.new.pass.line ≡ seat.old.pass.line }
+    ensures steps { Steps N.subs (AreMoved P.Link.pushed P.Link.pulled) seat.old.pass (here P.Link.pushed P.Link.pulled session) (here P.Link.pushed P.Link.pulled result.session) result.end seat.new.pass }
 {
     match session {
-        Some(linked) => go_on(rt, exchange, pass, linked, clock, gate),
-        None => connect(rt, alloc, exchange, pass, port, clock),
+        Some(linked) => go_on(rt, shared, seat, linked),
+        None => connect(rt, alloc, shared, seat, port),
     }
 }
 
 /// A turn on a link.
-fn go_on<N: Name, L: Link, C: Clock, G: Gate, A: Allocator + Copy, R: Wait>(
+fn go_on<N: Name, L: Link, C: Clock, A: Allocator + Copy, R: Wait>(
     rt: &R,
-    exchange: &Exchange<N, A>,
-    pass: &mut LinePass<N, A>,
+    shared: &Shared<'_, N, A>,
+    seat: &mut Seat<N, C, A>,
     session: Session<L, A>,
-    clock: &mut C,
-    gate: &mut G,
 ) -> Step<L, A>
-    ensures line { pass.new.line ≡ pass.old.line }
-    ensures turns { TurnsOn N.subs (AreMoved L.pushed L.pulled) session.connection pass.old (seen_on L.pushed L.pulled session).1 (here L.pushed L.pulled result.session) result.end pass.new }
+    ensures line { seat.new.pass.line ≡ seat.old.pass.line }
+    ensures turns { TurnsOn N.subs (AreMoved L.pushed L.pulled) session.connection seat.old.pass (seen_on L.pushed L.pulled session).1 (here L.pushed L.pulled result.session) result.end seat.new.pass }
 {
     let mut session = session;
-    let turned = turn(rt, exchange, pass, &mut session, clock, gate);
-    let records = turned.records;
+    let turned = turn(rt, shared, seat, &mut session);
     match turned.after {
         TurnOutcome::Linked | TurnOutcome::DownOwed => Step {
             session: Some(session),
-            records,
             end: None,
         },
-        TurnOutcome::Dropped => Step {
-            session: None,
-            records,
-            end: None,
-        },
+        TurnOutcome::Dropped => unlinked(None),
         TurnOutcome::Halted => Step {
             session: Some(session),
-            records,
             end: Some(EndReason::Halted),
         },
         TurnOutcome::Journal => Step {
             session: Some(session),
-            records,
             end: Some(EndReason::Journal),
         },
     }
@@ -132,24 +109,23 @@ fn go_on<N: Name, L: Link, C: Clock, G: Gate, A: Allocator + Copy, R: Wait>(
 fn connect<N: Name, P: Port, C: Clock, A: Allocator + Copy, R: Wait>(
     rt: &R,
     alloc: A,
-    exchange: &Exchange<N, A>,
-    pass: &mut LinePass<N, A>,
+    shared: &Shared<'_, N, A>,
+    seat: &mut Seat<N, C, A>,
     port: &mut P,
-    clock: &mut C,
 ) -> Step<P::Link, A>
-    ensures line { pass.new.line ≡ pass.old.line }
-    ensures connects { Connects N.subs (AreMoved P.Link.pushed P.Link.pulled) pass.old (here P.Link.pushed P.Link.pulled result.session) result.end pass.new }
+    ensures line { seat.new.pass.line ≡ seat.old.pass.line }
+    ensures connects { Connects N.subs (AreMoved P.Link.pushed P.Link.pulled) seat.old.pass (here P.Link.pushed P.Link.pulled result.session) result.end seat.new.pass }
 {
-    if exchange.halted() {
+    if shared.exchange.halted() {
         return unlinked(Some(EndReason::Halted));
     }
     match port.next() {
         Arrived::Came(link) => {
-            drain(rt, exchange, pass);
-            come_up(rt, alloc, exchange, pass, clock, link)
+            drain(rt, shared, seat);
+            come_up(rt, alloc, shared, seat, link)
         }
         Arrived::Nothing => {
-            clock.idle();
+            seat.clock.idle();
             unlinked(None)
         }
         Arrived::Fault => unlinked(Some(EndReason::Port)),
@@ -160,23 +136,19 @@ fn connect<N: Name, P: Port, C: Clock, A: Allocator + Copy, R: Wait>(
 fn unlinked<L: Link, A: Allocator>(end: Option<EndReason>) -> Step<L, A>
     ensures { result.session ≡ None }
 {
-    Step {
-        session: None,
-        records: 0,
-        end,
-    }
+    Step { session: None, end }
 }
 
 /// Drops the outputs that the exchange put out over an earlier link.
-fn drain<N: Name, A: Allocator + Copy, R: Wait>(
+fn drain<N: Name, C: Clock, A: Allocator + Copy, R: Wait>(
     rt: &R,
-    exchange: &Exchange<N, A>,
-    pass: &mut LinePass<N, A>,
+    shared: &Shared<'_, N, A>,
+    seat: &mut Seat<N, C, A>,
 )
-    ensures { Drops pass.old pass.new }
+    ensures { Drops seat.old.pass seat.new.pass }
 {
     for _output in 0..MOST_DRAINED {
-        let Some(_dropped) = exchange.next_out(rt, pass) else {
+        let Some(_dropped) = shared.exchange.next_out(rt, &mut seat.pass) else {
             return;
         };
     }
@@ -186,30 +158,28 @@ fn drain<N: Name, A: Allocator + Copy, R: Wait>(
 fn come_up<N: Name, L: Link, C: Clock, A: Allocator + Copy, R: Wait>(
     rt: &R,
     alloc: A,
-    exchange: &Exchange<N, A>,
-    pass: &mut LinePass<N, A>,
-    clock: &mut C,
+    shared: &Shared<'_, N, A>,
+    seat: &mut Seat<N, C, A>,
     link: L,
 ) -> Step<L, A>
-    ensures line { pass.new.line ≡ pass.old.line }
-    ensures connects { Connects N.subs (AreMoved L.pushed L.pulled) pass.old (here L.pushed L.pulled result.session) result.end pass.new }
+    ensures line { seat.new.pass.line ≡ seat.old.pass.line }
+    ensures connects { Connects N.subs (AreMoved L.pushed L.pulled) seat.old.pass (here L.pushed L.pulled result.session) result.end seat.new.pass }
 {
-    let moment = clock.now();
-    match offer(rt, exchange, pass, clock, moment, Waiting::up()) {
+    let now = seat.clock.now();
+    match seat.offer(rt, shared, now, Waiting::up()) {
         Ok(done) => Step {
             session: Some(Session {
                 link,
                 connection: done.connection(),
+                owes_down: false,
                 frames: Deframer::new(alloc),
-                waiting: None,
                 unwritten: Vec::new(alloc),
                 unanswered_since: None,
             }),
-            records: done.records() as u64,
             end: None,
         },
-        Err(Stop::Halted) => unlinked(Some(EndReason::Halted)),
-        Err(Stop::Journal) => unlinked(Some(EndReason::Journal)),
-        Err(Stop::Memory | Stop::Held) => unlinked(None),
+        Err(Over::Halted) => unlinked(Some(EndReason::Halted)),
+        Err(Over::Journal) => unlinked(Some(EndReason::Journal)),
+        Err(Over::Memory | Over::Link) => unlinked(None),
     }
 }

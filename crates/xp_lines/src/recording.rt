@@ -5,6 +5,7 @@ ghost use Rattle.xp_charge.specs.Lines.{HasLines};
 ghost use Rattle.xp_lines.specs.Recorded.{HandsOn};
 ghost use Rattle.xp_subs.specs.Tables.{Tables, line_count};
 
+use crate::shared::Shared;
 use crate::signals::Signals;
 use std::alloc::Global;
 use std::sync::Wait;
@@ -21,27 +22,30 @@ pub(crate) struct Recorded<N: Name, S: RecordSink> {
 }
 
 /// Hands charging records to the sink as calls end, until all lines have ended, and lets the sink do what it does from time to
-/// time. Where the sink answers that serving stops, the lines are asked to stop. Records that no memory could be had for at the
+/// time. Where the sink answers that serving stops, the lines are asked to stop. As it was handed all that are wanted, the exchange is
+/// halted. Records that no memory could be had for at the
 /// end stay with the exchange.
 pub(crate) fn keep_recording<N: Name, S: RecordSink, R: Wait>(
     rt: &R,
     alloc: Global,
-    exchange: &Exchange<N>,
+    shared: &Shared<'_, N>,
     recorder: Recorder<N>,
     sink: S,
-    signals: &Signals,
 ) -> Recorded<N, S>
     requires lines { S.lines sink ≡ line_count N.subs }
     requires tables { S.tables sink ≡ N.subs }
     requires received { S.received sink ≡ recorder.received }
     ensures { HandsOn S.received S.keeps recorder sink result.recorder result.sink }
 {
+    let Shared { exchange, signals } = shared;
     let mut recorder = recorder;
     let mut sink = sink;
     for _ in rt.forever() {
         let ended = signals.all_ended();
         let handed = hand_over(rt, alloc, exchange, &mut recorder, &mut sink);
-        signals.records_handed_on(recorder.received_count());
+        if signals.records_handed_on(recorder.received_count()) {
+            exchange.halt(rt);
+        }
         stop_at(signals, handed);
         let ticked = sink.tick();
         stop_at(signals, ticked);
@@ -102,7 +106,9 @@ fn reload<N: Name, S: RecordSink, R: Wait>(
     ensures hands { HandsOn S.received S.keeps recorder.old sink.old recorder.new sink.new }
 {
     let NextSubs { subs, moment } = next;
-    match exchange.reload(rt, recorder, subs, moment) {
+    // The lock is free again before the sink is given anything.
+    let outcome = exchange.lock(rt).reload(rt, recorder, subs, moment);
+    match outcome {
         Ok(records) => {
             let received = give(sink, records);
             sink.reloaded(Ok(()));
@@ -160,7 +166,7 @@ fn hand_records<N: Name, S: RecordSink, R: Wait>(
     ensures tables { S.tables sink.new ≡ S.tables sink.old }
     ensures hands { HandsOn S.received S.keeps recorder.old sink.old recorder.new sink.new }
 {
-    let Ok(records) = exchange.take_records(rt, recorder) else {
+    let Ok(records) = exchange.lock(rt).take_records(recorder) else {
         return Received::GoesOn;
     };
     give(sink, records)
@@ -181,7 +187,7 @@ fn show<N: Name, S: RecordSink, R: Wait>(
     ensures tables { S.tables sink.new ≡ S.tables sink.old }
     ensures hands { HandsOn S.received S.keeps recorder.old sink.old recorder.new sink.new }
 {
-    let Ok(look) = exchange.look(rt, alloc, recorder) else {
+    let Ok(look) = exchange.lock(rt).look(alloc, recorder) else {
         return Received::GoesOn;
     };
     let Look { records, view } = look;

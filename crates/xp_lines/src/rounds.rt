@@ -4,11 +4,10 @@ ghost use Rattle.std.specs.Prelude.{◌≡◌};
 
 use crate::line::EndReason;
 use crate::served_line::ServedLine;
-use crate::signals::Signals;
+use crate::shared::Shared;
 use std::alloc::Global;
 use std::sync::Wait;
-use xp_links::{Clock, Gate, Patience, Poller, Port};
-use xp_lock::Exchange;
+use xp_links::{Clock, Patience, Poller, Port};
 use xp_seats::Name;
 
 /// How often the Down of a line that is to stop is offered at most.
@@ -21,65 +20,51 @@ const MOST_SECONDS: u64 = 5;
 const MOST_WRITES: u32 = 10_000;
 
 /// Serves the lines of a thread for at most so many rounds: in each, every line that is due has a turn. It halts the exchange where
-/// `records` charging records are made, or the journal is full. It tells the recording thread of the records that were made, and
-/// that the lines have ended.
+/// the journal is full. It tells the recording thread of the records that were made, and that the lines have ended.
 ///
 /// At the end each line offers the Down of a link that is still there. Where an allocation fails, lines that were asked to stop
 /// offer it again, at most 100 times. Once the exchange has accepted their Downs, they write what still waits for their links, for
 /// at most 5 seconds, and only then drop them.
-pub(crate) fn serve_lines<N: Name, P: Port, C: Clock, G: Gate, T: Poller, R: Wait>(
+pub(crate) fn serve_lines<N: Name, P: Port, C: Clock, T: Poller, R: Wait>(
     rt: &R,
     alloc: Global,
-    exchange: &Exchange<N>,
-    lines: Vec<ServedLine<N, P, C, G>>,
+    shared: &Shared<'_, N>,
+    lines: Vec<ServedLine<N, P, C>>,
     poller: T,
-    signals: &Signals,
     rounds: u64,
-    records: u64,
-) -> Vec<ServedLine<N, P, C, G>>
+) -> Vec<ServedLine<N, P, C>>
     ensures { result.items ≡ lines.items }
 {
     let mut lines = lines;
     let mut poller = poller;
-    have_rounds(
-        rt,
-        alloc,
-        exchange,
-        &mut lines,
-        &mut poller,
-        signals,
-        rounds,
-        records,
-    );
-    if signals.is_stopping() {
-        stop_all(rt, exchange, &mut lines, &mut poller, signals);
-        write_all(rt, exchange, &mut lines, &mut poller);
+    have_rounds(rt, alloc, shared, &mut lines, &mut poller, rounds);
+    if shared.signals.is_stopping() {
+        stop_all(rt, shared, &mut lines, &mut poller);
+        write_all(rt, shared, &mut lines, &mut poller);
     } else {
-        end_all(rt, exchange, &mut lines);
+        end_all(rt, shared, &mut lines);
     }
-    signals.thread_ended();
+    shared.signals.thread_ended();
     lines
 }
 
 /// Has rounds of turns, until there were so many, the lines are to stop, or all have ended.
-fn have_rounds<N: Name, P: Port, C: Clock, G: Gate, T: Poller, R: Wait>(
+fn have_rounds<N: Name, P: Port, C: Clock, T: Poller, R: Wait>(
     rt: &R,
     alloc: Global,
-    exchange: &Exchange<N>,
-    lines: &mut Vec<ServedLine<N, P, C, G>>,
+    shared: &Shared<'_, N>,
+    lines: &mut Vec<ServedLine<N, P, C>>,
     poller: &mut T,
-    signals: &Signals,
     rounds: u64,
-    records: u64,
 )
     ensures { lines.new.items ≡ lines.old.items }
 {
     let mut open = lines.len();
     for _round in 0..rounds {
-        if open == 0 || signals.is_stopping() {
+        if open == 0 || shared.signals.is_stopping() {
             return;
         }
-        let round = have_round(rt, alloc, exchange, lines, poller, signals, records);
+        let round = have_round(rt, alloc, shared, lines, poller);
         open = open.saturating_sub(round.ended);
         if open > 0 {
             poller.poll(round.patience());
@@ -108,14 +93,12 @@ impl Round {
 }
 
 /// A turn of each line that is due.
-fn have_round<N: Name, P: Port, C: Clock, G: Gate, T: Poller, R: Wait>(
+fn have_round<N: Name, P: Port, C: Clock, T: Poller, R: Wait>(
     rt: &R,
     alloc: Global,
-    exchange: &Exchange<N>,
-    lines: &mut Vec<ServedLine<N, P, C, G>>,
+    shared: &Shared<'_, N>,
+    lines: &mut Vec<ServedLine<N, P, C>>,
     poller: &mut T,
-    signals: &Signals,
-    records: u64,
 ) -> Round
     ensures { lines.new.items ≡ lines.old.items }
 {
@@ -126,7 +109,7 @@ fn have_round<N: Name, P: Port, C: Clock, G: Gate, T: Poller, R: Wait>(
             return Round { ended, is_held };
         };
         if let Some(line) = lines.get_mut(place) {
-            let has_ended = have_turn(rt, alloc, exchange, line, signals, records);
+            let has_ended = have_turn(rt, alloc, shared, line);
             ended = ended.saturating_add(usize::from(has_ended));
             if line.is_held() {
                 poller.hold(place);
@@ -138,33 +121,30 @@ fn have_round<N: Name, P: Port, C: Clock, G: Gate, T: Poller, R: Wait>(
 }
 
 /// A turn of a line. Returns whether it has ended in it.
-fn have_turn<N: Name, P: Port, C: Clock, G: Gate, R: Wait>(
+fn have_turn<N: Name, P: Port, C: Clock, R: Wait>(
     rt: &R,
     alloc: Global,
-    exchange: &Exchange<N>,
-    line: &mut ServedLine<N, P, C, G>,
-    signals: &Signals,
-    records: u64,
+    shared: &Shared<'_, N>,
+    line: &mut ServedLine<N, P, C>,
 ) -> bool
     ensures { line.new ≡ line.old }
 {
     let was_open = line.is_open();
-    line.have_turn(rt, alloc, exchange, signals, records);
+    line.have_turn(rt, alloc, shared);
     was_open && !line.is_open()
 }
 
 /// Stops each line. Where an allocation fails for the Down of one, it is tried again after a moment.
-fn stop_all<N: Name, P: Port, C: Clock, G: Gate, T: Poller, R: Wait>(
+fn stop_all<N: Name, P: Port, C: Clock, T: Poller, R: Wait>(
     rt: &R,
-    exchange: &Exchange<N>,
-    lines: &mut Vec<ServedLine<N, P, C, G>>,
+    shared: &Shared<'_, N>,
+    lines: &mut Vec<ServedLine<N, P, C>>,
     poller: &mut T,
-    signals: &Signals,
 )
     ensures { lines.new.items ≡ lines.old.items }
 {
     for _offer in 0..MOST_OFFERS {
-        if !stop_each(rt, exchange, lines, signals) {
+        if !stop_each(rt, shared, lines) {
             return;
         }
         poller.pause();
@@ -172,34 +152,33 @@ fn stop_all<N: Name, P: Port, C: Clock, G: Gate, T: Poller, R: Wait>(
 }
 
 /// Asks each line to stop. Returns whether one has to be asked again.
-fn stop_each<N: Name, P: Port, C: Clock, G: Gate, R: Wait>(
+fn stop_each<N: Name, P: Port, C: Clock, R: Wait>(
     rt: &R,
-    exchange: &Exchange<N>,
-    lines: &mut Vec<ServedLine<N, P, C, G>>,
-    signals: &Signals,
+    shared: &Shared<'_, N>,
+    lines: &mut Vec<ServedLine<N, P, C>>,
 ) -> bool
     ensures { lines.new.items ≡ lines.old.items }
 {
     let mut is_owed = false;
     for line in lines.iter_mut() {
-        line.stop(rt, exchange, signals);
+        line.stop(rt, shared);
         is_owed |= line.is_open();
     }
     is_owed
 }
 
 /// Writes what stopped lines have still to write, until none of it is left or the time is up.
-fn write_all<N: Name, P: Port, C: Clock, G: Gate, T: Poller, R: Wait>(
+fn write_all<N: Name, P: Port, C: Clock, T: Poller, R: Wait>(
     rt: &R,
-    exchange: &Exchange<N>,
-    lines: &mut Vec<ServedLine<N, P, C, G>>,
+    shared: &Shared<'_, N>,
+    lines: &mut Vec<ServedLine<N, P, C>>,
     poller: &mut T,
 )
     ensures { lines.new.items ≡ lines.old.items }
 {
     let start = time_of(lines);
     for _write in 0..MOST_WRITES {
-        let is_left = write_each(rt, exchange, lines);
+        let is_left = write_each(rt, shared, lines);
         if !is_left || time_of(lines).saturating_sub(start) >= MOST_SECONDS {
             return;
         }
@@ -208,22 +187,22 @@ fn write_all<N: Name, P: Port, C: Clock, G: Gate, T: Poller, R: Wait>(
 }
 
 /// Lets each stopped line write. Returns whether one has still something to write.
-fn write_each<N: Name, P: Port, C: Clock, G: Gate, R: Wait>(
+fn write_each<N: Name, P: Port, C: Clock, R: Wait>(
     rt: &R,
-    exchange: &Exchange<N>,
-    lines: &mut Vec<ServedLine<N, P, C, G>>,
+    shared: &Shared<'_, N>,
+    lines: &mut Vec<ServedLine<N, P, C>>,
 ) -> bool
     ensures { lines.new.items ≡ lines.old.items }
 {
     let mut is_left = false;
     for line in lines.iter_mut() {
-        is_left |= line.write_rest(rt, exchange);
+        is_left |= line.write_rest(rt, shared);
     }
     is_left
 }
 
 /// The time by the clock of the lines, in seconds: the latest of them.
-fn time_of<N: Name, P: Port, C: Clock, G: Gate>(lines: &mut Vec<ServedLine<N, P, C, G>>) -> u64
+fn time_of<N: Name, P: Port, C: Clock>(lines: &mut Vec<ServedLine<N, P, C>>) -> u64
     ensures { lines.new.items ≡ lines.old.items }
 {
     let mut now = 0;
@@ -234,14 +213,14 @@ fn time_of<N: Name, P: Port, C: Clock, G: Gate>(lines: &mut Vec<ServedLine<N, P,
 }
 
 /// Ends each line that has not ended, since its turns are over.
-fn end_all<N: Name, P: Port, C: Clock, G: Gate, R: Wait>(
+fn end_all<N: Name, P: Port, C: Clock, R: Wait>(
     rt: &R,
-    exchange: &Exchange<N>,
-    lines: &mut Vec<ServedLine<N, P, C, G>>,
+    shared: &Shared<'_, N>,
+    lines: &mut Vec<ServedLine<N, P, C>>,
 )
     ensures { lines.new.items ≡ lines.old.items }
 {
     for line in lines.iter_mut() {
-        line.end(rt, exchange, EndReason::Turns);
+        line.end(rt, shared, EndReason::Turns);
     }
 }

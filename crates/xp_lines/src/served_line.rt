@@ -5,60 +5,54 @@ ghost use Rattle.xp_lines.specs.Sessions.{AreMoved};
 ghost use Rattle.xp_lines.specs.steps.Serving.{EndsSo, GoesOnTo, IsWhy, StaysSo};
 
 use crate::closing::{close, stop, write_rest};
-use crate::line::{EndReason, LineEnd, halt_at, have_turn};
+use crate::line::{EndReason, LineEnd, have_turn};
 use crate::line_state::LineState;
+use crate::seat::Seat;
 use crate::session::Session;
+use crate::shared::Shared;
 use crate::signals::Signals;
 use std::alloc::Global;
 use std::marker::Model;
 use std::mem;
 use std::sync::Wait;
-use xp_links::{Clock, Gate, Link, Port};
-use xp_lock::{Exchange, LinePass};
+use xp_links::{Clock, Link, Port};
+use xp_lock::LinePass;
 use xp_past::Past;
 use xp_seats::Name;
 
 /// What a line is served with.
 #[derive(Drop)]
-pub struct LineInputs<N: Name, P: Port, C: Clock, G: Gate> {
+pub struct LineInputs<N: Name, P: Port, C: Clock> {
     pub pass: LinePass<N>,
     pub port: P,
     pub clock: C,
-    pub gate: G,
 }
 
 /// A line that a thread serves, with the links that come from its port, one at a time. Contracts see it as the pass with which it
 /// began.
-pub(crate) struct ServedLine<N: Name, P: Port, C: Clock, G: Gate> {
+pub(crate) struct ServedLine<N: Name, P: Port, C: Clock> {
     /// The pass with which it began.
     first: Past<LinePass<N>>,
-    pass: LinePass<N>,
+    seat: Seat<N, C>,
     port: P,
-    clock: C,
-    gate: G,
     state: LineState<P::Link>,
-    /// Whether its last turn was the first to tell of more records than before. Mostly a call of the line ended in it.
-    has_new_records: bool,
     /// Whether a turn is due that waits for the recording thread.
     is_held: bool,
 }
 
-impl<N: Name, P: Port, C: Clock, G: Gate> Drop for ServedLine<N, P, C, G> {
+impl<N: Name, P: Port, C: Clock> Drop for ServedLine<N, P, C> {
     fn drop(self) {
         let ServedLine {
             first: _,
-            pass: _,
+            seat: _,
             port: _,
-            clock: _,
-            gate: _,
             state: _,
-            has_new_records: _,
             is_held: _,
         } = self;
     }
 }
 
-impl<N: Name, P: Port, C: Clock, G: Gate> Model for ServedLine<N, P, C, G> {
+impl<N: Name, P: Port, C: Clock> Model for ServedLine<N, P, C> {
     ghost use Rattle.std.specs.declared.alloc.Global.{Global as Alloc};
     ghost use Rattle.xp_lock.specs.Passes.{Pass};
     ghost use Rattle.xp_lines.specs.steps.Serving.{IsLineSo, first_of};
@@ -67,28 +61,22 @@ impl<N: Name, P: Port, C: Clock, G: Gate> Model for ServedLine<N, P, C, G> {
 
     ghost view = { λ line. first_of line.first.items };
 
-    ghost invariant = { λ line. IsLineSo N.subs P.Link.pushed P.Link.pulled (first_of line.first.items) line.state line.pass };
+    ghost invariant = { λ line. IsLineSo N.subs P.Link.pushed P.Link.pulled (first_of line.first.items) line.state line.seat.pass };
 }
 
-impl<N: Name, P: Port, C: Clock, G: Gate> ServedLine<N, P, C, G> {
+impl<N: Name, P: Port, C: Clock> ServedLine<N, P, C> {
     /// The line, which has had no turn.
-    pub(crate) fn new(inputs: LineInputs<N, P, C, G>) -> ServedLine<N, P, C, G>
+    pub(crate) fn new(inputs: LineInputs<N, P, C>) -> ServedLine<N, P, C>
         ensures { result ≡ inputs.pass }
     {
-        let LineInputs {
-            pass,
-            port,
-            clock,
-            gate,
-        } = inputs;
+        let LineInputs { pass, port, clock } = inputs;
+        let first = Past::new().and(&pass);
+        let seat = Seat::new(pass, clock);
         ServedLine {
-            first: Past::new().and(&pass),
-            pass,
+            first,
+            seat,
             port,
-            clock,
-            gate,
             state: LineState::Open(None),
-            has_new_records: false,
             is_held: false,
         }
     }
@@ -105,7 +93,7 @@ impl<N: Name, P: Port, C: Clock, G: Gate> ServedLine<N, P, C, G> {
 
     /// Whether a turn may find something to do. The clock is asked in any case, since that takes what was marked.
     fn is_due(&self) -> bool {
-        self.clock.is_due() && self.is_open()
+        self.seat.clock.is_due() && self.is_open()
     }
 
     /// Whether it has a turn now. A turn that is due is held where the recording thread is behind and the line has new records, until
@@ -114,88 +102,57 @@ impl<N: Name, P: Port, C: Clock, G: Gate> ServedLine<N, P, C, G> {
         ensures { self.new ≡ self.old }
     {
         let is_due = self.is_due() || self.is_held;
-        self.is_held = is_due && self.has_new_records && signals.is_recorder_behind();
+        self.is_held = is_due && self.seat.waits_for_recorder(signals);
         if self.is_held {
-            self.clock.idle();
+            self.seat.clock.idle();
         }
         is_due && !self.is_held
     }
 
-    /// Has a turn, if it is due and not held. It halts the exchange where so many charging records are made, or the journal is full.
-    pub(crate) fn have_turn<R: Wait>(
-        &mut self,
-        rt: &R,
-        alloc: Global,
-        exchange: &Exchange<N>,
-        signals: &Signals,
-        records: u64,
-    )
+    /// Has a turn, if it is due and not held. It halts the exchange where the journal is full.
+    pub(crate) fn have_turn<R: Wait>(&mut self, rt: &R, alloc: Global, shared: &Shared<'_, N>)
         ensures { self.new ≡ self.old }
     {
-        if !self.may_go(signals) {
+        if !self.may_go(shared.signals) {
             return;
         }
         self.state = match mem::replace(&mut self.state, LineState::Ended(EndReason::Halted)) {
-            LineState::Open(session) => next_state(
-                rt,
-                alloc,
-                exchange,
-                &mut self.pass,
-                &mut self.port,
-                &mut self.clock,
-                &mut self.gate,
-                signals,
-                records,
-                &mut self.has_new_records,
-                session,
-            ),
+            LineState::Open(session) => {
+                next_state(rt, alloc, shared, &mut self.seat, &mut self.port, session)
+            }
             LineState::Stopped(rest) => LineState::Stopped(rest),
             LineState::Ended(why) => LineState::Ended(why),
         };
     }
 
     /// Is asked to stop: it offers the Down of its link, if it has one. Where an allocation fails it stays open.
-    pub(crate) fn stop<R: Wait>(&mut self, rt: &R, exchange: &Exchange<N>, signals: &Signals)
+    pub(crate) fn stop<R: Wait>(&mut self, rt: &R, shared: &Shared<'_, N>)
         ensures { self.new ≡ self.old }
     {
         self.state = match mem::replace(&mut self.state, LineState::Ended(EndReason::Halted)) {
-            LineState::Open(session) => stop(
-                rt,
-                exchange,
-                &mut self.pass,
-                &mut self.clock,
-                signals,
-                session,
-            ),
+            LineState::Open(session) => stop(rt, shared, &mut self.seat, session),
             LineState::Stopped(rest) => LineState::Stopped(rest),
             LineState::Ended(why) => LineState::Ended(why),
         };
     }
 
     /// Ends, unless it has ended: it offers the Down of its link, if it has one, once.
-    pub(crate) fn end<R: Wait>(&mut self, rt: &R, exchange: &Exchange<N>, why: EndReason)
+    pub(crate) fn end<R: Wait>(&mut self, rt: &R, shared: &Shared<'_, N>, why: EndReason)
         ensures { self.new ≡ self.old }
     {
         self.state = match mem::replace(&mut self.state, LineState::Ended(EndReason::Halted)) {
-            LineState::Open(session) => end_state(
-                rt,
-                exchange,
-                &mut self.pass,
-                &mut self.clock,
-                why,
-                session,
-            ),
+            LineState::Open(session) => end_state(rt, shared, &mut self.seat, why, session),
             LineState::Stopped(rest) => LineState::Stopped(rest),
             LineState::Ended(why) => LineState::Ended(why),
         };
     }
 
     /// Writes what a stopped line has still to write, as far as its link takes it. Returns whether some of it is left.
-    pub(crate) fn write_rest<R: Wait>(&mut self, rt: &R, exchange: &Exchange<N>) -> bool
+    pub(crate) fn write_rest<R: Wait>(&mut self, rt: &R, shared: &Shared<'_, N>) -> bool
         ensures { self.new ≡ self.old }
     {
         let state = mem::replace(&mut self.state, LineState::Ended(EndReason::Halted));
-        self.state = write_state(rt, exchange, &mut self.pass, &mut self.clock, state);
+        self.state = write_state(rt, shared, &mut self.seat, state);
         self.has_rest()
     }
 
@@ -208,7 +165,7 @@ impl<N: Name, P: Port, C: Clock, G: Gate> ServedLine<N, P, C, G> {
     pub(crate) fn now(&mut self) -> u64
         ensures { self.new ≡ self.old }
     {
-        self.clock.now()
+        self.seat.clock.now()
     }
 
     /// What is left of it. A line that has not ended tells that an allocation failed: its Down is still owed.
@@ -217,16 +174,16 @@ impl<N: Name, P: Port, C: Clock, G: Gate> ServedLine<N, P, C, G> {
     {
         let ServedLine {
             first: _,
-            pass,
+            seat,
             port: _,
-            clock: _,
-            gate: _,
             state,
-            has_new_records: _,
             is_held: _,
         } = self;
         let why = why_of(state);
-        LineEnd { pass, why }
+        LineEnd {
+            pass: seat.into_pass(),
+            why,
+        }
     }
 
     /// What is left of it, where its thread could not be started.
@@ -235,49 +192,40 @@ impl<N: Name, P: Port, C: Clock, G: Gate> ServedLine<N, P, C, G> {
     {
         let ServedLine {
             first: _,
-            pass,
+            seat,
             port: _,
-            clock: _,
-            gate: _,
             state: _,
-            has_new_records: _,
             is_held: _,
         } = self;
         LineEnd {
-            pass,
+            pass: seat.into_pass(),
             why: EndReason::NotStarted,
         }
     }
 }
 
-/// A turn of an open line. It notes whether calls ended in it.
-fn next_state<N: Name, P: Port, C: Clock, G: Gate, R: Wait>(
+/// A turn of an open line.
+fn next_state<N: Name, P: Port, C: Clock, R: Wait>(
     rt: &R,
     alloc: Global,
-    exchange: &Exchange<N>,
-    pass: &mut LinePass<N>,
+    shared: &Shared<'_, N>,
+    seat: &mut Seat<N, C>,
     port: &mut P,
-    clock: &mut C,
-    gate: &mut G,
-    signals: &Signals,
-    records: u64,
-    has_new_records: &mut bool,
     session: Option<Session<P::Link>>,
 ) -> LineState<P::Link>
-    ensures { GoesOnTo N.subs P.Link.pushed P.Link.pulled session pass.old result pass.new }
+    ensures { GoesOnTo N.subs P.Link.pushed P.Link.pulled session seat.old.pass result seat.new.pass }
 {
-    let step = have_turn(rt, alloc, exchange, pass, port, clock, gate, session);
-    *has_new_records = signals.records_made(step.records);
-    halt_at(rt, exchange, step.records, records);
+    seat.has_new_records = false;
+    let step = have_turn(rt, alloc, shared, seat, port, session);
     match step.end {
         None => LineState::Open(step.session),
         Some(why) => {
             if why == EndReason::Journal {
-                exchange.halt(rt);
+                shared.exchange.halt(rt);
             }
-            let why = close(rt, exchange, pass, clock, why, step.session);
+            let why = close(rt, shared, seat, why, step.session);
             // A line that has ended keeps its thread from no sleep.
-            clock.idle();
+            seat.clock.idle();
             LineState::Ended(why)
         }
     }
@@ -286,15 +234,14 @@ fn next_state<N: Name, P: Port, C: Clock, G: Gate, R: Wait>(
 /// Writes what a line in this state has still to write, as far as its link takes it.
 fn write_state<N: Name, L: Link, C: Clock, R: Wait>(
     rt: &R,
-    exchange: &Exchange<N>,
-    pass: &mut LinePass<N>,
-    clock: &mut C,
+    shared: &Shared<'_, N>,
+    seat: &mut Seat<N, C>,
     state: LineState<L>,
 ) -> LineState<L>
-    ensures { StaysSo N.subs L.pushed L.pulled state pass.old result pass.new }
+    ensures { StaysSo N.subs L.pushed L.pulled state seat.old.pass result seat.new.pass }
 {
     match state {
-        LineState::Stopped(rest) => match write_rest(rt, exchange, pass, clock, rest) {
+        LineState::Stopped(rest) => match write_rest(rt, shared, seat, rest) {
             Some(rest) => LineState::Stopped(rest),
             None => LineState::Ended(EndReason::Stopped),
         },
@@ -317,13 +264,12 @@ fn why_of<L: Link>(state: LineState<L>) -> EndReason
 /// The end of an open line.
 fn end_state<N: Name, L: Link, C: Clock, R: Wait>(
     rt: &R,
-    exchange: &Exchange<N>,
-    pass: &mut LinePass<N>,
-    clock: &mut C,
+    shared: &Shared<'_, N>,
+    seat: &mut Seat<N, C>,
     why: EndReason,
     session: Option<Session<L>>,
 ) -> LineState<L>
-    ensures { GoesOnTo N.subs L.pushed L.pulled session pass.old result pass.new }
+    ensures { GoesOnTo N.subs L.pushed L.pulled session seat.old.pass result seat.new.pass }
 {
-    LineState::Ended(close(rt, exchange, pass, clock, why, session))
+    LineState::Ended(close(rt, shared, seat, why, session))
 }

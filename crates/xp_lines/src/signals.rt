@@ -21,6 +21,8 @@ pub struct Signals {
     told: AtomicU64,
     /// How many records it has handed on.
     handed_on: AtomicU64,
+    /// With how many records serving ends.
+    wanted: u64,
     /// Whether the lines are to stop.
     stopping: AtomicBool,
     /// What the recording thread waits on.
@@ -28,12 +30,13 @@ pub struct Signals {
 }
 
 impl Signals {
-    /// The signals of so many threads of lines.
-    pub fn new(threads: usize) -> Signals {
+    /// The signals of so many threads of lines, which serve until there are so many charging records.
+    pub fn new(threads: usize, wanted: u64) -> Signals {
         Signals {
             running: AtomicUsize::new(threads),
             told: AtomicU64::new(0),
             handed_on: AtomicU64::new(0),
+            wanted,
             stopping: AtomicBool::new(false),
             parker: Parker::new(),
         }
@@ -50,9 +53,10 @@ impl Signals {
         is_more
     }
 
-    /// Tells that the recording thread has handed on so many records.
-    pub(crate) fn records_handed_on(&self, count: u64) {
+    /// Tells that the recording thread has handed on so many records. Returns whether these are all that are wanted.
+    pub(crate) fn records_handed_on(&self, count: u64) -> bool {
         self.handed_on.store(count, Ordering::SeqCst);
+        count >= self.wanted
     }
 
     /// Whether more than 128 records wait for the recording thread. A line whose calls end then waits too, so that the memory of

@@ -15,6 +15,7 @@ use crate::line::{EndReason, LineEnd};
 use crate::recording::keep_recording;
 use crate::rounds::serve_lines;
 use crate::served_line::{LineInputs, ServedLine};
+use crate::shared::Shared;
 use crate::signals::Signals;
 use std::alloc::{AllocError, Global};
 use std::snapshot::Snapshot;
@@ -22,7 +23,7 @@ use std::sync::Wait;
 use std::thread;
 use std::thread::{Promise, PromisedHandle, Scope, Threads};
 use std::vec::IntoIter;
-use xp_links::{Clock, Gate, Poller, Port};
+use xp_links::{Clock, Poller, Port};
 use xp_lock::Exchange;
 use xp_seats::{Name, Recorder};
 use xp_sink::RecordSink;
@@ -39,30 +40,29 @@ pub struct LinesServed<N: Name, S: RecordSink> {
 
 /// An allocation failed, and no line was served. The lines, the recorder and the sink come back.
 #[derive(Drop)]
-pub struct ServeFault<N: Name, P: Port, C: Clock, G: Gate, S: RecordSink> {
-    pub lines: Vec<LineInputs<N, P, C, G>>,
+pub struct ServeFault<N: Name, P: Port, C: Clock, S: RecordSink> {
+    pub lines: Vec<LineInputs<N, P, C>>,
     pub recorder: Recorder<N>,
     pub sink: S,
 }
 
 /// The promise that a thread returns the lines that it was given.
 #[derive(Drop)]
-struct OfLines<N: Name, P: Port, C: Clock, G: Gate> {
+struct OfLines<N: Name, P: Port, C: Clock> {
     /// The lines that the thread is given.
-    first: Snapshot<Vec<ServedLine<N, P, C, G>>>,
+    first: Snapshot<Vec<ServedLine<N, P, C>>>,
 }
 
-impl<N: Name, P: Port, C: Clock, G: Gate> Promise<Vec<ServedLine<N, P, C, G>>>
-    for OfLines<N, P, C, G> {
+impl<N: Name, P: Port, C: Clock> Promise<Vec<ServedLine<N, P, C>>> for OfLines<N, P, C> {
     ghost use Rattle.std.specs.Prelude.{◌≡◌};
 
     ghost kept_by = { λ promise lines. lines.items ≡ promise.first.value.items };
 }
 
 /// The lines of a thread that runs, or those of a thread that could not be started.
-type Begun<N, P, C, G> = Result<
-    PromisedHandle<Vec<ServedLine<N, P, C, G>>, OfLines<N, P, C, G>>,
-    Vec<ServedLine<N, P, C, G>>,
+type Begun<N, P, C> = Result<
+    PromisedHandle<Vec<ServedLine<N, P, C>>, OfLines<N, P, C>>,
+    Vec<ServedLine<N, P, C>>,
 >;
 
 /// Serves all lines until all have ended. There is a thread for each poller, which serves as many of the next lines as the poller
@@ -81,7 +81,6 @@ pub fn serve_all<
     N: Name + Send + Sync,
     P: Port + Send,
     C: Clock + Send,
-    G: Gate + Send,
     T: Poller + Send,
     S: RecordSink,
     R: Threads + Wait + Sync,
@@ -89,13 +88,13 @@ pub fn serve_all<
     rt: &R,
     alloc: Global,
     exchange: &Exchange<N>,
-    lines: Vec<LineInputs<N, P, C, G>>,
+    lines: Vec<LineInputs<N, P, C>>,
     pollers: Vec<T>,
     recorder: Recorder<N>,
     sink: S,
     turns: u64,
     records: u64,
-) -> Result<LinesServed<N, S>, ServeFault<N, P, C, G, S>>
+) -> Result<LinesServed<N, S>, ServeFault<N, P, C, S>>
     requires lines { S.lines sink ≡ line_count N.subs }
     requires tables { S.tables sink ≡ N.subs }
     requires received { S.received sink ≡ recorder.received }
@@ -106,12 +105,13 @@ pub fn serve_all<
     ensures err { IfErr result (λ fault. fault.lines ≡ lines) }
     ensures kept { IfErr result (λ fault. (fault.recorder ≡ recorder) × (fault.sink ≡ sink)) }
 {
-    let signals = Signals::new(pollers.len());
-    let shared = &signals;
+    let signals = Signals::new(pollers.len(), records);
+    let shared = Shared::new(exchange, &signals);
+    let shared = &shared;
     thread::scope(
         thread::scope_env(),
         rt,
-        |scope| -> Result<LinesServed<N, S>, ServeFault<N, P, C, G, S>>
+        |scope| -> Result<LinesServed<N, S>, ServeFault<N, P, C, S>>
             requires lines { S.lines sink ≡ line_count N.subs }
             requires tables { S.tables sink ≡ N.subs }
             requires received { S.received sink ≡ recorder.received }
@@ -123,7 +123,7 @@ pub fn serve_all<
             ensures kept { IfErr result (λ fault. (fault.recorder ≡ recorder) × (fault.sink ≡ sink)) }
         {
             serve_in(
-                rt, scope, alloc, exchange, shared, lines, pollers, recorder, sink, turns, records,
+                rt, scope, alloc, shared, lines, pollers, recorder, sink, turns,
             )
         },
     )
@@ -136,7 +136,6 @@ fn serve_in<
     N: Name + Send + Sync + 's,
     P: Port + Send + 's,
     C: Clock + Send + 's,
-    G: Gate + Send + 's,
     T: Poller + Send + 's,
     S: RecordSink,
     R: Threads + Wait + Sync + 's,
@@ -144,15 +143,13 @@ fn serve_in<
     rt: &'s R,
     scope: &Scope<'s, E>,
     alloc: Global,
-    exchange: &'s Exchange<N>,
-    signals: &'s Signals,
-    lines: Vec<LineInputs<N, P, C, G>>,
+    shared: &'s Shared<'s, N>,
+    lines: Vec<LineInputs<N, P, C>>,
     pollers: Vec<T>,
     recorder: Recorder<N>,
     sink: S,
     turns: u64,
-    records: u64,
-) -> Result<LinesServed<N, S>, ServeFault<N, P, C, G, S>>
+) -> Result<LinesServed<N, S>, ServeFault<N, P, C, S>>
     requires lines { S.lines sink ≡ line_count N.subs }
     requires tables { S.tables sink ≡ N.subs }
     requires received { S.received sink ≡ recorder.received }
@@ -177,13 +174,11 @@ fn serve_in<
         ends,
     } = rooms;
     let mut left = served_of(lines, served).into_iter();
-    let begun = begin_all(
-        rt, scope, alloc, exchange, signals, &mut left, groups, begun, turns, records,
-    );
+    let begun = begin_all(rt, scope, alloc, shared, &mut left, groups, begun, turns);
     if left.len() > 0 {
-        exchange.halt(rt);
+        shared.exchange.halt(rt);
     }
-    let recorded = keep_recording(rt, alloc, exchange, recorder, sink, signals);
+    let recorded = keep_recording(rt, alloc, shared, recorder, sink);
     Ok(LinesServed {
         ends: end_all(rt, begun, left, ends),
         recorder: recorded.recorder,
@@ -193,19 +188,19 @@ fn serve_in<
 
 /// Room for what serving makes of its lines.
 #[derive(Drop)]
-struct Rooms<N: Name, P: Port, C: Clock, G: Gate, T: Poller> {
-    served: Vec<ServedLine<N, P, C, G>>,
-    groups: Vec<ThreadGroup<N, P, C, G, T>>,
-    begun: Vec<Begun<N, P, C, G>>,
+struct Rooms<N: Name, P: Port, C: Clock, T: Poller> {
+    served: Vec<ServedLine<N, P, C>>,
+    groups: Vec<ThreadGroup<N, P, C, T>>,
+    begun: Vec<Begun<N, P, C>>,
     ends: Vec<LineEnd<N>>,
 }
 
 /// Room for so many lines, and for the threads of these pollers.
-fn rooms_for<N: Name, P: Port, C: Clock, G: Gate, T: Poller>(
+fn rooms_for<N: Name, P: Port, C: Clock, T: Poller>(
     alloc: Global,
     lines: usize,
     pollers: Vec<T>,
-) -> Result<Rooms<N, P, C, G, T>, AllocError>
+) -> Result<Rooms<N, P, C, T>, AllocError>
     ensures served { IfOk result (λ rooms. (rooms.served.items ≡ []) × (lines ≤ vec_capacity rooms.served)) }
     ensures begun { IfOk result (λ rooms. (rooms.begun.items ≡ []) × (vec_len rooms.groups ≤ vec_capacity rooms.begun)) }
     ensures ends { IfOk result (λ rooms. (rooms.ends.items ≡ []) × (lines ≤ vec_capacity rooms.ends)) }
@@ -227,21 +222,18 @@ fn begin_all<
     N: Name + Send + Sync + 's,
     P: Port + Send + 's,
     C: Clock + Send + 's,
-    G: Gate + Send + 's,
     T: Poller + Send + 's,
     R: Threads + Wait + Sync + 's,
 >(
     rt: &'s R,
     scope: &Scope<'s, E>,
     alloc: Global,
-    exchange: &'s Exchange<N>,
-    signals: &'s Signals,
-    left: &mut IntoIter<ServedLine<N, P, C, G>, Global>,
-    groups: Vec<ThreadGroup<N, P, C, G, T>>,
-    begun: Vec<Begun<N, P, C, G>>,
+    shared: &'s Shared<'s, N>,
+    left: &mut IntoIter<ServedLine<N, P, C>, Global>,
+    groups: Vec<ThreadGroup<N, P, C, T>>,
+    begun: Vec<Begun<N, P, C>>,
     turns: u64,
-    records: u64,
-) -> Vec<Begun<N, P, C, G>>
+) -> Vec<Begun<N, P, C>>
     requires room { vec_len begun + vec_len groups ≤ vec_capacity begun }
     requires none { begun.items ≡ [] }
     requires many { length (into_iter_items left.old) ≡ into_iter_len left.old }
@@ -252,9 +244,7 @@ fn begin_all<
     for group in groups {
         let ThreadGroup { poller, room } = group;
         let lines = fill(room, poller.lines(), left);
-        begun.push_reserved(begin_one(
-            rt, scope, alloc, exchange, signals, lines, poller, turns, records,
-        ));
+        begun.push_reserved(begin_one(rt, scope, alloc, shared, lines, poller, turns));
     }
     begun
 }
@@ -266,42 +256,39 @@ fn begin_one<
     N: Name + Send + Sync + 's,
     P: Port + Send + 's,
     C: Clock + Send + 's,
-    G: Gate + Send + 's,
     T: Poller + Send + 's,
     R: Threads + Wait + Sync + 's,
 >(
     rt: &'s R,
     scope: &Scope<'s, E>,
     alloc: Global,
-    exchange: &'s Exchange<N>,
-    signals: &'s Signals,
-    lines: Vec<ServedLine<N, P, C, G>>,
+    shared: &'s Shared<'s, N>,
+    lines: Vec<ServedLine<N, P, C>>,
     poller: T,
     turns: u64,
-    records: u64,
-) -> Begun<N, P, C, G>
+) -> Begun<N, P, C>
     ensures { lines_of result ≡ lines.items }
 {
-    let promise = OfLines::<N, P, C, G> {
+    let promise = OfLines::<N, P, C> {
         first: Snapshot::of(&lines),
     };
-    let run = move || -> Vec<ServedLine<N, P, C, G>>
+    let run = move || -> Vec<ServedLine<N, P, C>>
         ensures { result.items ≡ lines.items }
-    { serve_lines(rt, alloc, exchange, lines, poller, signals, turns, records) };
+    { serve_lines(rt, alloc, shared, lines, poller, turns) };
     match scope.spawn_with(promise, run) {
         Ok(handle) => Ok(handle),
         Err(refused) => {
-            exchange.halt(rt);
+            shared.exchange.halt(rt);
             Err((refused.value)())
         }
     }
 }
 
 /// Waits for the end of each thread. A line that had no thread has ended as well.
-fn end_all<N: Name, P: Port, C: Clock, G: Gate, R: Threads>(
+fn end_all<N: Name, P: Port, C: Clock, R: Threads>(
     rt: &R,
-    begun: Vec<Begun<N, P, C, G>>,
-    left: IntoIter<ServedLine<N, P, C, G>, Global>,
+    begun: Vec<Begun<N, P, C>>,
+    left: IntoIter<ServedLine<N, P, C>, Global>,
     ends: Vec<LineEnd<N>>,
 ) -> Vec<LineEnd<N>>
     requires room { length (begun_lines begun.items ++ into_iter_items left) ≤ vec_capacity ends }
@@ -317,9 +304,9 @@ fn end_all<N: Name, P: Port, C: Clock, G: Gate, R: Threads>(
 }
 
 /// Waits for the end of a thread, and adds how its lines ended.
-fn end_one<N: Name, P: Port, C: Clock, G: Gate, R: Threads>(
+fn end_one<N: Name, P: Port, C: Clock, R: Threads>(
     rt: &R,
-    begun: Begun<N, P, C, G>,
+    begun: Begun<N, P, C>,
     ends: Vec<LineEnd<N>>,
 ) -> Vec<LineEnd<N>>
     requires room { vec_len ends + length (lines_of begun) ≤ vec_capacity ends }

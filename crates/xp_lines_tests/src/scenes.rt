@@ -14,8 +14,8 @@ use xp_testing::{number, setting};
 use xp_testing_wires::words_of;
 
 /// h1 calls b1, which accepts. Then a1 calls the other hunt group, whose first line is busy, and the link of the second
-/// ends once it was given the call. The first packets of a1 and of h1 each wait until the other thread has one too: lines
-/// that were served one after another would end as late.
+/// ends once it was given the call. The links of a1 and of h1 give nothing until the other has a packet to give too: lines that were
+/// served one after another would end as late.
 ///
 /// Then five links give packets at once, and end with their turns. a1 has four calls refused, of which each makes a record. The
 /// others give clear confirmations: one where there is no call to confirm, and one that confirms the clear indication.
@@ -118,12 +118,12 @@ b1 most=0 >accepted >ready1 >ready2 >ready3 >ready4 >ready5 >ready6 >ready7 >rea
 record 1 a1 b1 2080020 caller 41 0 09 0 0";
 
 /// Calls to an address that nobody has, which make a record at once. One halts the exchange, or not where two are wanted. The sink
-/// stops serving with its first record, though more are wanted. Then the gates of the lines wait until the sink was given so many
-/// records, so each call waits for the record of the one before: records that came only as all lines have ended would be waited
+/// stops serving with its first record, though more are wanted. Then the links of the lines give nothing until the sink was given so
+/// many records, so each call waits for the record of the one before: records that came only as all lines have ended would be waited
 /// for in vain.
 const RECORDED: &str = "serve threads
-a1 counted >call-nobody <not-obtainable
-= HHHHHH 2 a1 counts 1 1 0
+a1 >call-nobody <not-obtainable
+= HHHHHH 2
 record 1 a1 - 2080099 caller 0 0 0d 67 0
 
 serve threads turns=10 records=2

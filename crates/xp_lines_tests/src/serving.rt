@@ -35,7 +35,7 @@ line = [{ name = "m1", port = 19986, modulus = 128 }]
 "#;
 
 /// A line that is served.
-type Line<N> = LineInputs<N, Part, Part, Part>;
+type Line<N> = LineInputs<N, Part, Part>;
 
 /// The subscriptions, with a journal of nine entries where that is asked for.
 fn subs(alloc: Global, board: &Board) -> Result<Subs, Fail> {
@@ -49,17 +49,8 @@ fn subs(alloc: Global, board: &Board) -> Result<Subs, Fail> {
 
 fn line<N: Name>(pass: LinePass<N>, board: &Arc<Board>) -> Result<Line<N>, AllocError> {
     let line = pass.line();
-    let (port, clock, gate) = (
-        Part::new(board, line, 0)?,
-        Part::new(board, line, 0)?,
-        Part::new(board, line, 0)?,
-    );
-    Ok(LineInputs {
-        pass,
-        port,
-        clock,
-        gate,
-    })
+    let (port, clock) = (Part::new(board, line, 0)?, Part::new(board, line, 0)?);
+    Ok(LineInputs { pass, port, clock })
 }
 
 fn lines<N: Name>(
@@ -111,7 +102,7 @@ fn serves<N: Name + Send + Sync, R: Threads + Wait + Sync>(
     requires tables { sink.shown.value ≡ prepared.subs }
     requires given { sink.given.items ≡ [] }
     requires subs { N.subs ≡ prepared.subs }
-    requires history_length { N.history_length ≡ prepared.history_length }
+    requires seats { N.seats ≡ prepared.seats }
     requires queues { N.queues ≡ prepared.queues }
 {
     let (exchange, passes, recorder) = Exchange::<N, Global>::start(alloc, prepared)?;

@@ -1,4 +1,4 @@
-//! What a line is served with: links and the port that they come from, a clock and a gate; and what its thread waits on.
+//! What a line is served with: links and the port that they come from, a clock; and what its thread waits on.
 
 ghost use Rattle.std.specs.Prelude.{◌≡◌, ◌≤◌, length, take};
 ghost use Rattle.std.specs.Io.KnownBytes.{Appends};
@@ -124,18 +124,4 @@ pub trait Poller: Drop {
 
     /// Waits for a moment, while the lines of the thread end.
     fn pause(&mut self);
-}
-
-/// Says when the packets of a line may go to the exchange.
-pub trait Gate: Drop {
-    ghost use Rattle.std.specs.Prelude.{Bool, ⊤};
-
-    // What a call of `may_go` says of the gate before it, its answer, and the gate after it, where anything is known.
-    ghost answers: { Self → Bool → Self → Type 0 } = { λ _ _ _. ⊤ };
-
-    /// Whether the line's next packet may go. A line's thread calls it before it offers a packet, while it does not hold the
-    /// exchange's lock, so it may wait for other lines. After a no the packet waits, and the thread asks again in the next turn.
-    /// Packets that may go one after the other are offered together.
-    fn may_go(&mut self, line: LineNo) -> bool
-        ensures { answers self.old result self.new };
 }

@@ -2,7 +2,7 @@
 use Rattle.std.proofs.Common.{◌≡◌, ◌≢◌, ◌⊎◌, ℕ, suc, ◌≤◌, true, false, true≢false, List, [], ◌∷◌, ◌++◌, length, refl, ap, sym, subst, ◌∙◌, inl, inr, arith}
 use Rattle.std.proofs.lemmas.Bool.{cases_Bool, eq-eqb, eqb-true, false_from_ne_true, or_cases, or_left, or_right}
 use Rattle.xp_lock.specs.Given.{AreApart}
-use Rattle.xp_seats.specs.Among.{is_among}
+use Rattle.xp_lock.specs.Given.{is_among}
 
 abbrev pub Among : List ℕ → ℕ → Type 0
 Among [] line = ⊥

@@ -26,10 +26,10 @@ use Rattle.xp_lock.specs.Given.{AreGiven}
 use Rattle.xp_lock.specs.steps.Given.{with_lines}
 use Rattle.xp_lock.specs.Outboxes.{PLACES_KEPT, outbox_at}
 use Rattle.xp_lock.specs.steps.Outboxes.{AreAlike, HasRoomFor, IsPut, OutboxesMatch}
-use Rattle.xp_lock.specs.Forced.{AreAt, IsDue, IsLowestDue, IsQuiet, Stalls}
+use Rattle.xp_lock.specs.Forced.{AreAt, Forces, IsDue, IsLowestDue, IsQuiet, Stalls}
 use Rattle.xp_lock.specs.Outgoing.{put_out_to, to_line}
 use Rattle.xp_lock.specs.steps.Stalling.{CanEnter, IsSearched, is_short, lowest_short, with_outboxes}
-use Rattle.xp_lock.specs.CoreWithOutboxes.{CoreWithOutboxes, Takes, is_up}
+use Rattle.xp_lock.specs.Locked.{Locked, Takes, is_up}
 use Rattle.xp_seats.specs.Handed.{is_stall}
 use Rattle.xp_lock.proofs.Among.{Among, among_is, is_from, without}
 use Rattle.xp_lock.proofs.Calls.{AreClosed, closed_after}
@@ -54,7 +54,7 @@ pub left_most : {A : Type 0} (what : What A) (stalls : ℕ) → left_after what 
 left_most events.Stall stalls = omega arith
 left_most what stalls = omega arith
 
-module _ {A : Type 0} (old : CoreWithOutboxes A) (event : Event A) where
+module _ {A : Type 0} (old : Locked A) (event : Event A) where
   abbrev world : World
   world = world_after old.subs old.history
 
@@ -139,35 +139,36 @@ module _ {A : Type 0} (old : CoreWithOutboxes A) (event : Event A) where
         same = λ line off. ap (λ b. b.free + length (put_out_to line entries)) (search.still line off);
       }
 
+      led : world_of now ≡ world_after old.subs (old.history ++ entries)
+      led = ap (λ t. world_after t now.history) loop.subs ∙ ap (world_after old.subs) loop.history
+
+      forces : Forces old.subs old.history world (known_before entries after) loop.entry loop.stalls (world_of now)
+      forces = record {
+        next = loop.next;
+        step = loop.step;
+        forced = subst (λ xs. Stalls old.subs old.history loop.next (known_before entries after) (loop.entry ∷ []) xs (world_of now)) (append-nil loop.stalls)
+            (loop.forced (known_before entries after) may_be [] (world_of now) refl);
+        quiet = quiet;
+        moments = loop.moments;
+      }
+
       pub taken : (first : List (Putting (Outgoing A))) → AreAlike first old.outboxes → Takes (record old { outboxes = first }) event done (with_outboxes now after)
       taken first alike = record {
         running = can.running;
         places = can.places;
-        entry = loop.entry;
-        event_is = loop.event_is;
-        stalls = loop.stalls;
-        history = loop.history;
-        known = known_before entries after;
-        forces = record {
-          next = loop.next;
-          step = loop.step;
-          forced = subst (λ xs. Stalls old.subs old.history loop.next (known_before entries after) (loop.entry ∷ []) xs (world_of now)) (append-nil loop.stalls)
-              (loop.forced (known_before entries after) may_be [] (world_of now) refl);
-          quiet = quiet;
-          moments = loop.moments;
+        entered = record {
+          forcing = record { entry = loop.entry; stalls = loop.stalls; places = known_before entries after };
+          event_is = loop.event_is;
+          forced = record { few = few_stalls; forces = subst (Forces old.subs old.history world (known_before entries after) loop.entry loop.stalls) led forces };
+          history = loop.history;
+          number = entered ∙ loop.number_is;
+          records = records;
+          connection = connection ∙ ap (λ t. (line_at (world_after t now.history) event.line).connection) loop.subs;
+          given = subst (AreGiven entries) (sym receipt) loop.given;
         };
-        few = few_stalls;
-        count = search.alike.count ∙ loop.count ∙ alike.count;
-        outboxes = since_look first old.outboxes after entries alike.each out_now;
+        filled = record { count = search.alike.count ∙ loop.count ∙ alike.count; each = since_look first old.outboxes after entries alike.each out_now };
         room = λ up. let enough = can.room up in let least = (out_now event.line).known in omega (arith, enough, least);
-        subs = loop.subs;
-        halted = refl;
-        handed_over = loop.handed_over;
-        waiting = loop.waiting;
-        number = entered ∙ loop.number_is;
-        records = records;
-        connection = connection;
-        given = subst (AreGiven entries) (sym receipt) loop.given;
+        rest = λ i. record { subs = loop.subs i; history = now.history; given = loop.handed_over i; waiting = loop.waiting i; outboxes = after; halted = sym can.running i };
       }
 
       -- a line in service has its places

@@ -5,7 +5,7 @@ use Rattle.std.proofs.lemmas.List.{drop_more, flat_map_more, length_push}
 use Rattle.xp_step.specs.declared.entry.Entry.{Entry}
 use Rattle.xp_step.specs.declared.output.Output.{Output}
 use Rattle.xp_lock.specs.Given.{AreApart, AreGiven}
-use Rattle.xp_seats.specs.Among.{is_among}
+use Rattle.xp_lock.specs.Given.{is_among}
 use Rattle.xp_lock.specs.steps.Given.{with_line, with_lines}
 use Rattle.xp_lock.specs.Outgoing.{put_out_to, to_line}
 use Rattle.xp_lock.proofs.Among.{Among, among_is, apart_push, is_from, no_more_than, push_cases, push_new, push_old}

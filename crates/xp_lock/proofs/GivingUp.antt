@@ -1,6 +1,6 @@
 -- Lines are given up before a reload, one after the other.
-use Rattle.std.proofs.Common.{◌≡◌, ℕ, ◌+◌, ◌*◌, ◌-◌, ◌<◌, ◌≤◌, true, false, true≢false, IfOk, List, [], ◌∷◌, ◌++◌, All, length, get_or, refl, ap, sym, subst, ◌∙◌, inl, inr, arith, append_assoc, append-nil, length-append}
-use Rattle.std.proofs.lemmas.Bool.{cases_eq, cases_lt}
+use Rattle.std.proofs.Common.{◌≡◌, ℕ, ◌+◌, ◌*◌, ◌-◌, ◌<◌, ◌≤◌, true, false, true≢false, List, [], ◌∷◌, ◌++◌, length, get_or, refl, ap, sym, subst, ◌∙◌, inl, inr, arith, append_assoc, append-nil, length-append}
+use Rattle.std.proofs.lemmas.Bool.{cases_eq}
 use Rattle.std.proofs.lemmas.Grind.{flat_map-append}
 use Rattle.std.proofs.lemmas.List.{get_or_default}
 use Rattle.std.proofs.lemmas.List.Elements.{All-get_or}
@@ -8,7 +8,6 @@ use Rattle.std.proofs.lemmas.List.Kept.{AllPairs-from_increasing}
 use Rattle.xp_outbox.specs.Ends.{Putting}
 use Rattle.xp_subs.specs.Tables.{Tables, line_count}
 use Rattle.xp_step.specs.declared.entry.Entry.{Entry}
-use Rattle.xp_step.specs.declared.event.Event.{Event}
 use Rattle.xp_step.specs.declared.event.What.TheVariants.{Stall}
 use Rattle.xp_step.specs.declared.output.Outgoing.{Outgoing}
 use Rattle.xp_step.specs.Exchange.{Exchange, world_of}
@@ -23,15 +22,14 @@ use Rattle.xp_core.specs.Records.{records_of}
 use Rattle.xp_core.specs.Reload.{AreGoing, MayReplace, MustGo}
 use Rattle.xp_core.specs.steps.Stalls.{stall_of}
 use Rattle.xp_core.proofs.GivenUp.{goes_still, gone, in_force_still, may_replace_still, one_record}
-use Rattle.xp_lock.specs.CoreWithOutboxes.{CoreWithOutboxes, Takes}
+use Rattle.xp_lock.specs.Locked.{IsFilled, Takes}
 use Rattle.xp_lock.specs.Forced.{Forces, Stalls}
 use Rattle.xp_lock.specs.Histories.{AreGivenUp, Forcing, IsForcing, IsGivenUp, all_entries, entries_of}
-use Rattle.xp_lock.specs.Reloading.{AreFilled, IsFilled}
-use Rattle.xp_lock.specs.steps.GivingUp.{GivesLineUp, IsPreparedFor}
+use Rattle.xp_lock.specs.Reloading.{AreFilled}
+use Rattle.xp_lock.specs.steps.GivingUp.{GivesLineUp}
 use Rattle.xp_lock.specs.steps.Outboxes.{OutboxesMatch}
 use Rattle.xp_lock.specs.steps.Stalling.{CanEnter, with_outboxes}
-use Rattle.xp_lock.specs.declared.giving_up.PreparedReload.{PreparedReload}
-use Rattle.xp_lock.proofs.Histories.{entries_more, forcing_of, given_up_more, is_forcing}
+use Rattle.xp_lock.proofs.Histories.{entries_more, given_up_more}
 
 -- ---- what stalls leave as it was
 
@@ -232,49 +230,59 @@ module _ {A : Type 0} (core : Exchange A) (outboxes : List (Putting (Outgoing A)
           takes = gives.1
 
           abbrev forcing : Forcing A
-          forcing = record { entry = takes.entry; stalls = takes.stalls; places = takes.known }
+          forcing = takes.entered.forcing
 
           abbrev so_far : List (Entry A)
           so_far = all_entries loop.given_up
 
-          what : takes.entry.event.what ≡ Stall
-          what = ap (λ e. e.what) takes.event_is
+          abbrev past : List (Entry A)
+          past = core.history ++ so_far
 
-          here : takes.entry.event.line ≡ line
-          here = ap (λ e. e.line) takes.event_is
+          what : forcing.entry.event.what ≡ Stall
+          what = ap (λ e. e.what) takes.entered.event_is
 
-          -- the state as the history has it
-          world_is : world_of now ≡ world_after core.subs (core.history ++ so_far)
+          here : forcing.entry.event.line ≡ line
+          here = ap (λ e. e.line) takes.entered.event_is
+
+          history_is : new.history ≡ past ++ entries_of forcing
+          history_is = takes.entered.history ∙ ap (λ xs. xs ++ entries_of forcing) loop.history
+
+          subs_are : new.subs ≡ core.subs
+          subs_are = ap (λ l. l.subs) takes.rest ∙ loop.subs
+
+          -- the states as the history has them
+          world_is : world_of now ≡ world_after core.subs past
           world_is = ap (λ t. world_after t now.history) loop.subs ∙ ap (world_after core.subs) loop.history
 
-          forces : Forces core.subs (core.history ++ so_far) (world_of now) takes.known takes.entry takes.stalls (world_of new)
+          last_is : world_of new ≡ world_after core.subs (past ++ entries_of forcing)
+          last_is = ap (λ t. world_after t new.history) subs_are ∙ ap (world_after core.subs) history_is
+
+          one_forcing : IsForcing core.subs past forcing
+          one_forcing = subst (λ xs. IsForcing core.subs xs forcing) loop.history (subst (λ t. IsForcing t now.history forcing) loop.subs takes.entered.forced)
+
+          forces : Forces core.subs past (world_of now) forcing.places forcing.entry forcing.stalls (world_of new)
           forces =
-              subst (λ xs. Forces core.subs xs (world_of now) takes.known takes.entry takes.stalls (world_of new)) loop.history
-              (subst (λ t. Forces t now.history (world_of now) takes.known takes.entry takes.stalls (world_of new)) loop.subs takes.forces)
+              subst (λ w. Forces core.subs past w forcing.places forcing.entry forcing.stalls (world_of new)) (sym world_is)
+              (subst (λ w. Forces core.subs past (world_after core.subs past) forcing.places forcing.entry forcing.stalls w) (sym last_is) one_forcing.forces)
 
-          stalled : AreStalled core.subs (core.history ++ so_far) (world_of now) (takes.entry ∷ takes.stalls) (world_of new)
-          stalled = forced_stalled core.subs (core.history ++ so_far) (world_of now) takes.known takes.entry takes.stalls (world_of new) loop.stalled.run what forces
-
-          one_forcing : IsForcing core.subs (core.history ++ so_far) forcing
-          one_forcing =
-              subst (λ xs. IsForcing core.subs xs forcing) loop.history
-              (subst (λ t. IsForcing t now.history forcing) loop.subs (is_forcing (with_outboxes now after) (stall_of line moment) gives.0 (with_outboxes new last) takes))
+          stalled : AreStalled core.subs past (world_of now) (entries_of forcing) (world_of new)
+          stalled = forced_stalled core.subs past (world_of now) forcing.places forcing.entry forcing.stalls (world_of new) loop.stalled.run what forces
 
           -- whoever must go, seen from the history
           abbrev Goes : ℕ → Type 0
-          Goes other = MustGo (in_force core.subs (core.history ++ so_far)) (world_after core.subs (core.history ++ so_far)) next other
+          Goes other = MustGo (in_force core.subs past) (world_after core.subs past) next other
 
           goes_there : (other : ℕ) → MustGo force (world_of now) next other → Goes other
-          goes_there other must = subst (λ w. MustGo (in_force core.subs (core.history ++ so_far)) w next other) world_is (subst (λ t. MustGo t (world_of now) next other) (sym loop.stalled.force) must)
+          goes_there other must = subst (λ w. MustGo (in_force core.subs past) w next other) world_is (subst (λ t. MustGo t (world_of now) next other) (sym loop.stalled.force) must)
 
           goes_back : (other : ℕ) → Goes other → MustGo force (world_of now) next other
-          goes_back other must = subst (λ t. MustGo t (world_of now) next other) loop.stalled.force (subst (λ w. MustGo (in_force core.subs (core.history ++ so_far)) w next other) (sym world_is) must)
+          goes_back other must = subst (λ t. MustGo t (world_of now) next other) loop.stalled.force (subst (λ w. MustGo (in_force core.subs past) w next other) (sym world_is) must)
 
-          one_given_up : IsGivenUp core.subs (core.history ++ so_far) next moment forcing
+          one_given_up : IsGivenUp core.subs past next moment forcing
           one_given_up = record {
             stall = what;
-            moment_is = ap (λ e. e.moment) takes.event_is;
-            must_go = goes_there takes.entry.event.line (subst (MustGo force (world_of now) next) (sym here) must_go);
+            moment_is = ap (λ e. e.moment) takes.entered.event_is;
+            must_go = goes_there forcing.entry.event.line (subst (MustGo force (world_of now) next) (sym here) must_go);
             lowest = λ other below must. lowest other (omega (arith, below, here)) (goes_back other must);
             forced = one_forcing;
           }
@@ -286,14 +294,13 @@ module _ {A : Type 0} (core : Exchange A) (outboxes : List (Putting (Outgoing A)
           goes_on = record {
             given_up = loop.given_up ++ forcing ∷ [];
             are = given_up_more core.subs core.history next moment loop.given_up forcing loop.are one_given_up;
-            filled = filled_more loop.given_up forcing outboxes after last loop.filled (record { count = takes.count; each = takes.outboxes });
+            filled = filled_more loop.given_up forcing outboxes after last loop.filled takes.filled;
             stalled = subst (λ xs. AreStalled core.subs core.history (world_of core) xs (world_of new)) (sym grown)
                 (stalled_on core.subs core.history (world_of core) so_far (world_of now) (entries_of forcing) (world_of new) loop.stalled stalled);
-            history = takes.history ∙ ap (λ xs. xs ++ entries_of forcing) loop.history ∙ append_assoc core.history so_far (entries_of forcing)
-                ∙ ap (λ xs. core.history ++ xs) (sym grown);
-            subs = takes.subs ∙ loop.subs;
-            given = takes.handed_over ∙ loop.given;
-            waiting = takes.waiting ∙ ap (λ xs. xs ++ records_of (entries_of forcing)) loop.waiting
+            history = history_is ∙ append_assoc core.history so_far (entries_of forcing) ∙ ap (λ xs. core.history ++ xs) (sym grown);
+            subs = subs_are;
+            given = ap (λ l. l.given) takes.rest ∙ loop.given;
+            waiting = ap (λ l. l.waiting) takes.rest ∙ ap (λ xs. xs ++ records_of (entries_of forcing)) loop.waiting
                 ∙ append_assoc core.waiting (records_of so_far) (records_of (entries_of forcing))
                 ∙ ap (λ xs. core.waiting ++ xs) (sym (flat_map-append (λ (e : Entry A). e.records.items) so_far (entries_of forcing)) ∙ ap records_of (sym grown));
             kept = kept;
@@ -302,19 +309,19 @@ module _ {A : Type 0} (core : Exchange A) (outboxes : List (Putting (Outgoing A)
                 elim (cases_eq there.0 at) [
                   | inl same ↦
                       let that : other ≡ line = sym there.3 ∙ ap (λ k. get_or going k other) same ∙ get_or_default going at other line within ∙ sym is in
-                      absurd (forced_gone core.subs (core.history ++ so_far) (world_of now) takes.known takes.entry takes.stalls (world_of new) loop.stalled.run what forces force next
+                      absurd (forced_gone core.subs past (world_of now) forcing.places forcing.entry forcing.stalls (world_of new) loop.stalled.run what forces force next
                       (subst (MustGo force (world_of new) next) (that ∙ sym here) must))
                   | inr apart ↦ (there.0, omega (arith, there.1, apart), there.2, there.3)
                 ];
             places =
                 let had = loop.places in
-                let few = takes.few in
-                let long = ap length takes.history in
+                let few = takes.entered.forced.few in
+                let long = ap length takes.entered.history in
                 omega (arith, had, few, long, within, length-append now.history (entries_of forcing));
             stalls = let had = loop.stalls in omega (arith, had, used, within);
             records =
                 let had = loop.records in
-                let few = takes.few in
+                let few = takes.entered.forced.few in
                 let long = ap length grown in
                 omega (arith, had, few, long, within, length-append so_far (entries_of forcing));
           }

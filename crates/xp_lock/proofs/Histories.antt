@@ -1,5 +1,5 @@
 -- A history grows by an event and the stalls that it forced, and by a reload with the stalls that give up lines.
-use Rattle.std.proofs.Common.{◌≡◌, ℕ, true, false, true≢false, List, [], ◌∷◌, ◌++◌, sym, refl, ap, ◌∙◌, subst, append_assoc, append-nil}
+use Rattle.std.proofs.Common.{◌≡◌, ℕ, false, true≢false, List, [], ◌∷◌, ◌++◌, sym, refl, ap, ◌∙◌, subst, append_assoc, append-nil}
 use Rattle.std.proofs.lemmas.Grind.{flat_map-append}
 use Rattle.std.specs.Prelude.{flat_map}
 use Rattle.xp_subs.specs.Tables.{Tables}
@@ -12,8 +12,7 @@ use Rattle.xp_step.specs.Worlds.{world_after}
 use Rattle.xp_machine.specs.World.{World}
 use Rattle.xp_seats.specs.Handed.{is_raised}
 use Rattle.xp_lock.specs.declared.receipt.Receipt.{Receipt}
-use Rattle.xp_lock.specs.CoreWithOutboxes.{CoreWithOutboxes, Takes, world_of}
-use Rattle.xp_lock.specs.Forced.{Forces}
+use Rattle.xp_lock.specs.Locked.{Locked, Takes}
 use Rattle.xp_lock.proofs.Fresh.{not_stall}
 use Rattle.xp_lock.specs.Histories.{AllHappen, AreForced, AreGivenUp, Forcing, GivesUpFor, Happening, Happens, IsForcing, IsGivenUp, all_entries, entries_in, entries_of}
 
@@ -63,29 +62,18 @@ module _ {A : Type 0} where
   pub entries_more : (given_up : List (Forcing A)) (last : Forcing A) → all_entries (given_up ++ last ∷ []) ≡ all_entries given_up ++ entries_of last
   entries_more given_up last = flat_map-append entries_of given_up (last ∷ []) ∙ ap (λ xs. all_entries given_up ++ xs) (append-nil (entries_of last))
 
-  module _ (old : CoreWithOutboxes A) (event : Event A) (done : Receipt) (new : CoreWithOutboxes A) (takes : Takes old event done new) where
-    -- the event and its stalls
-    abbrev pub forcing_of : Forcing A
-    forcing_of = record { entry = takes.entry; stalls = takes.stalls; places = takes.known }
-
-    pub is_forcing : IsForcing old.subs old.history forcing_of
-    is_forcing =
-        let led : world_of new ≡ world_after old.subs (old.history ++ takes.entry ∷ takes.stalls) = ap (λ t. world_after t new.history) takes.subs ∙ ap (world_after old.subs) takes.history in
-        record {
-          few = takes.few;
-          forces = subst (λ w. Forces old.subs old.history (world_of old) takes.known takes.entry takes.stalls w) led takes.forces;
-        }
-
+  module _ (old : Locked A) (event : Event A) (done : Receipt) (new : Locked A) (takes : Takes old event done new) where
     -- a take adds the event and the stalls that it forced
-    pub forced_taken : is_raised event.what ≡ false → AreForced old.subs old.history → AreForced new.subs new.history
+    pub forced_taken : is_raised event.what ≡ false → AreForced old.subs old.history → AreForced old.subs new.history
     forced_taken kind was =
-        let raised : is_raised takes.entry.event.what ≡ false = ap (λ e. is_raised e.what) takes.event_is ∙ kind in
-        let brought : takes.entry.tables.items ≡ [] =
-        brings_none (in_force old.subs old.history) (world_of old) takes.entry.event.what takes.entry.tables.items raised takes.forces.step.brought in
-        let last : Happening A = record { given_up = []; event = forcing_of } in
+        let forcing = takes.entered.forcing in
+        let raised : is_raised forcing.entry.event.what ≡ false = ap (λ e. is_raised e.what) takes.entered.event_is ∙ kind in
+        let brought : forcing.entry.tables.items ≡ [] =
+        brings_none (in_force old.subs old.history) (world_after old.subs old.history) forcing.entry.event.what forcing.entry.tables.items raised takes.entered.forced.forces.step.brought in
+        let last : Happening A = record { given_up = []; event = forcing } in
         let one : Happens old.subs old.history last = record {
-          own = not_stall takes.entry.event.what raised;
-          given_up = subst (λ tables. GivesUpFor old.subs old.history tables takes.entry.event.moment []) (sym brought) refl;
-          forced = subst (λ xs. IsForcing old.subs xs forcing_of) (sym (append-nil old.history)) is_forcing;
+          own = not_stall forcing.entry.event.what raised;
+          given_up = subst (λ tables. GivesUpFor old.subs old.history tables forcing.entry.event.moment []) (sym brought) refl;
+          forced = subst (λ xs. IsForcing old.subs xs forcing) (sym (append-nil old.history)) takes.entered.forced;
         } in
-        subst (λ t. AreForced t new.history) (sym takes.subs) (forced_more old.subs old.history new.history last was one takes.history)
+        forced_more old.subs old.history new.history last was one takes.entered.history

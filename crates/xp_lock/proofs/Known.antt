@@ -8,7 +8,7 @@ use Rattle.xp_machine.specs.World.{World, state_at}
 use Rattle.xp_lock.specs.Outboxes.{outbox_at}
 use Rattle.xp_lock.specs.steps.Outboxes.{HasRoomFor, IsAlike, IsPut}
 use Rattle.xp_lock.specs.Outgoing.{put_out_to, to_line}
-use Rattle.xp_lock.specs.CoreWithOutboxes.{IsGiven}
+use Rattle.xp_lock.specs.Locked.{IsGiven}
 use Rattle.xp_lock.proofs.GivenLines.{count_more, put_more}
 
 -- how many places there may turn out to be: no fewer than are known, and no more of a line out of service, at which none looks

@@ -5,7 +5,7 @@ use Rattle.std.proofs.lemmas.List.Elements.{All-nil}
 use Rattle.std.specs.Prelude.{not, ◌&&◌}
 use Rattle.xp_charge.specs.declared.record.Record.{Record}
 use Rattle.xp_outbox.specs.Ends.{Putting}
-use Rattle.xp_subs.specs.Tables.{Tables, line_count}
+use Rattle.xp_subs.specs.Tables.{Tables}
 use Rattle.xp_step.specs.declared.entry.Entry.{Entry}
 use Rattle.xp_step.specs.declared.event.Event.{Event}
 use Rattle.xp_step.specs.declared.output.Outgoing.{Outgoing}
@@ -16,7 +16,6 @@ use Rattle.xp_machine.specs.Changes.{all_changed, recorded_by}
 use Rattle.xp_machine.specs.Channel.{is_off}
 use Rattle.xp_machine.specs.World.{World, state_at}
 use Rattle.xp_seats.specs.Handed.{handed, is_raised, is_stall}
-use Rattle.xp_seats.specs.Views.{IsGrownByNone}
 use Rattle.xp_seats.proofs.Lists.{handed-append}
 use Rattle.xp_step.specs.Exchange.{Advances, Exchange, world_of}
 use Rattle.xp_step.specs.Effects.{effects_of}
@@ -27,18 +26,16 @@ use Rattle.xp_step.specs.StepContext.{step_context}
 use Rattle.xp_step.specs.Table.{action_at}
 use Rattle.xp_step.specs.Worlds.{world_after}
 use Rattle.xp_step.proofs.InForce.{in_force_on}
-use Rattle.xp_lock.specs.CoreWithOutboxes.{CoreWithOutboxes}
+use Rattle.xp_lock.specs.Locked.{Locked}
 use Rattle.xp_lock.specs.Histories.{AreForced, AreGivenUp, Forcing, GivesUpFor, Happening, Happens, IsForcing, all_entries, entries_of}
 use Rattle.xp_lock.specs.Outgoing.{put_out_to, to_line}
-use Rattle.xp_lock.specs.Passes.{AreStalls}
 use Rattle.xp_lock.specs.Reloading.{Reloads}
 use Rattle.xp_lock.specs.steps.Outboxes.{OutboxesMatch}
 use Rattle.xp_lock.specs.steps.Stalling.{with_outboxes}
-use Rattle.xp_lock.proofs.Fresh.{all_stalls, handed_stalls}
+use Rattle.xp_lock.proofs.Fresh.{raised_handed}
 use Rattle.xp_lock.proofs.GivenLines.{put_more}
 use Rattle.xp_lock.proofs.GivingUp.{GivingUp}
 use Rattle.xp_lock.proofs.Histories.{forced_more}
-use Rattle.xp_lock.proofs.Queues.{filled_queues, queues}
 
 module _ {A : Type 0} where
   module _ (subs : Tables) (history : List (Entry A)) (world : World) (entry : Entry A) (next : World) (moment : ℕ)
@@ -199,45 +196,38 @@ module _ {A : Type 0} where
 
   -- ---- what a reload leads to
 
-  -- an entry that the exchange itself raises is no line's
-  none_handed : (line : ℕ) (entry : Entry A) (entries : List (Entry A)) → is_raised entry.event.what ≡ true → handed line entries ≡ [] → handed line (entry ∷ entries) ≡ []
-  none_handed line entry entries raised rest =
-      ap (λ b. cond (eqb entry.event.line line && not b) (entry ∷ handed line entries) (handed line entries)) raised ∙ neither (eqb entry.event.line line) ∙ rest
-    where
-      neither : (b : Bool) → cond (b && false) (entry ∷ handed line entries) (handed line entries) ≡ handed line entries
-      neither true = refl
-      neither false = refl
-
-  forced_stalls : (subs : Tables) (before : List (Entry A)) (forcing : Forcing A) → IsForcing subs before forcing → AreStalls forcing.stalls
-  forced_stalls subs before forcing is =
-      all_stalls subs before is.forces.next forcing.places (forcing.entry ∷ []) forcing.stalls (world_after subs (before ++ entries_of forcing)) is.forces.forced
-
   none_given_up : (subs : Tables) (before : List (Entry A)) (next : Tables) (moment line : ℕ) (given_up : List (Forcing A)) → AreGivenUp subs before next moment given_up
       → handed line (all_entries given_up) ≡ []
   none_given_up subs before next moment line [] are = refl
   none_given_up subs before next moment line (forcing ∷ given_up) are =
-      let raised : is_raised forcing.entry.event.what ≡ true = ap is_raised are.0.stall in
-      let stalls = handed_stalls line forcing.stalls (forced_stalls subs before forcing are.0.forced) in
+      let here = raised_handed subs before forcing are.0.forced line (ap is_raised are.0.stall) in
       handed-append line (entries_of forcing) (all_entries given_up)
-      ∙ (λ i. none_handed line forcing.entry forcing.stalls raised stalls i ++ none_given_up subs (before ++ entries_of forcing) next moment line given_up are.1 i)
+      ∙ (λ i. here i ++ none_given_up subs (before ++ entries_of forcing) next moment line given_up are.1 i)
 
-  module _ (old : CoreWithOutboxes A) (next : Tables) (moment : ℕ) (taken : List Record) (new : CoreWithOutboxes A) (did : Reloads old next moment taken new) where
-    -- these are entries that no line offered
-    pub reload_grown : IsGrownByNone old.history new.history
-    reload_grown = record {
-      more = all_entries did.given_up ++ did.entry ∷ [];
-      grown_is = ap (λ c. c.history) did.grown ∙ append_assoc old.history (all_entries did.given_up) (did.entry ∷ []);
-      others = λ line.
-          let raised : is_raised did.entry.event.what ≡ true = ap (λ (e : Event A). is_raised e.what) did.event_is in
-          handed-append line (all_entries did.given_up) (did.entry ∷ [])
-          ∙ (λ i. none_given_up old.subs old.history next moment line did.given_up did.are_given_up i ++ none_handed line did.entry [] raised refl i);
-    }
+  module _ (old : Locked A) (next : Tables) (moment : ℕ) (taken : List Record) (new : Locked A) (did : Reloads old next moment taken new) where
+    abbrev pub reload_entries : List (Entry A)
+    reload_entries = all_entries did.given_up ++ did.entry ∷ []
+
+    pub reload_entries_are : new.history ≡ old.history ++ reload_entries
+    reload_entries_are = ap (λ l. l.history) did.grown ∙ append_assoc old.history (all_entries did.given_up) (did.entry ∷ [])
+
+    -- no line offered them
+    pub reload_handed : (line : ℕ) → handed line reload_entries ≡ []
+    reload_handed line =
+        handed-append line (all_entries did.given_up) (did.entry ∷ [])
+        ∙ (λ i. none_given_up old.subs old.history next moment line did.given_up did.are_given_up i ++ last i)
+      where
+        raised : is_raised did.entry.event.what ≡ true
+        raised = ap (λ (e : Event A). is_raised e.what) did.event_is
+
+        neither : (b : Bool) → cond (b && false) (did.entry ∷ []) [] ≡ []
+        neither true = refl
+        neither false = refl
+
+        last : handed line (did.entry ∷ []) ≡ []
+        last = ap (λ b. cond (eqb did.entry.event.line line && not b) (did.entry ∷ []) []) raised ∙ neither (eqb did.entry.event.line line)
 
     pub reload_in_force : in_force old.subs new.history ≡ next
     reload_in_force =
-        ap (λ c. in_force old.subs c.history) did.grown ∙ in_force_on old.subs (old.history ++ all_entries did.given_up) did.entry
+        ap (λ l. in_force old.subs l.history) did.grown ∙ in_force_on old.subs (old.history ++ all_entries did.given_up) did.entry
         ∙ ap (last_of (in_force old.subs (old.history ++ all_entries did.given_up))) did.brought
-
-    -- each outbox is the one that it was
-    pub reload_queues : queues new.outboxes ≡ queues old.outboxes
-    reload_queues = filled_queues did.given_up old.outboxes new.outboxes did.filled

@@ -30,7 +30,7 @@ use Rattle.xp_machine.proofs.InCall.{end_of, shown_on}
 use Rattle.xp_core.proofs.Sounds.{run_right}
 use Rattle.xp_core.proofs.States.{state_follows}
 use Rattle.xp_lock.specs.Outgoing.{to_line}
-use Rattle.xp_lock.specs.CoreWithOutboxes.{is_up}
+use Rattle.xp_lock.specs.Locked.{is_up}
 use Rattle.xp_lock.proofs.Among.{Among}
 use Rattle.xp_lock.proofs.Calls.{AreClosed, far_is_end, still_closed}
 use Rattle.xp_lock.proofs.Three.{far_from, goes_to, rises, trio}

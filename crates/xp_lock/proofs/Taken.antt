@@ -1,10 +1,11 @@
 -- What the passes of a closed exchange took, and how it is counted.
-use Rattle.std.proofs.Common.{◌≡◌, ℕ, ◌+◌, ◌-◌, ◌*◌, ◌^◌, ◌<◌, ◌≤◌, true, false, true≢false, eqb, List, [], ◌∷◌, ◌++◌, All, length, set, refl, sym, ap, ◌∙◌, inl, inr, arith, eq-eqb, length-append}
+use Rattle.std.proofs.Common.{◌≡◌, ℕ, ◌+◌, ◌-◌, ◌*◌, ◌^◌, ◌≢◌, ◌<◌, ◌≤◌, Some, None, List, [], ◌∷◌, ◌++◌, All, length, set, refl, sym, ap, ◌∙◌, inl, inr, arith, length-append}
 use Rattle.std.proofs.Math.Nat.{min-eq_left, min-eq_right}
 use Rattle.std.proofs.Math.Seq.{take-append_seam}
-use Rattle.std.proofs.lemmas.Bool.{cases_eq, cases_lt, or_left, or_right}
+use Rattle.std.proofs.lemmas.Bool.{cases_eq, cases_lt}
 use Rattle.std.proofs.lemmas.Grind.{flat_map-append}
 use Rattle.std.proofs.lemmas.List.{get_or-replicate, get_or-set_other, get_or-set_same, get_or_past, length-replicate}
+use Rattle.std.proofs.lemmas.Option.{none-some}
 use Rattle.std.proofs.lemmas.List.Elements.{All-cons, All-head, All-nil, All-tail}
 use Rattle.std.specs.Prelude.{min, replicate, take}
 use mathlib.Core.List.{IsPrefix}
@@ -19,9 +20,10 @@ use Rattle.xp_core.proofs.Few.{few_of_step}
 use Rattle.xp_step.proofs.RunLemmas.{run_keeps, run_push}
 use Rattle.xp_lock.specs.Closing.{AreCounted, PassesMatch, Closed, IsCounted, PassMatches, taken_by}
 use Rattle.xp_lock.specs.steps.Closing.{AreWithin}
-use Rattle.xp_seats.specs.Among.{is_among}
 use Rattle.xp_lock.specs.Outgoing.{put_out_to, to_line}
 use Rattle.xp_lock.specs.Passes.{Pass}
+use Rattle.xp_seats.specs.Views.{seen_by}
+use Rattle.xp_lock.proofs.Fronts.{Known, is_there}
 
 -- ---- a number that counts as far as it reaches
 
@@ -32,9 +34,6 @@ count_more items count more was is = elim (cases_lt items (2 ^ 64 - 1)) [
       let full : count ≡ 2 ^ 64 - 1 = was ∙ min-eq_right (omega (arith, past)) in
       is ∙ min-eq_right (omega (arith, full)) ∙ sym (min-eq_right (omega (arith, past)))
 ]
-
-pub count_exact : (items count : ℕ) → count ≡ min items (2 ^ 64 - 1) → items < 2 ^ 64 → count ≡ items
-count_exact items count was few = was ∙ min-eq_left (omega (arith, few))
 
 -- ---- how much is put out to a line
 
@@ -77,18 +76,21 @@ module _ {A : Type 0} where
 
 -- ---- the counts by line
 
--- these later counts are the same for these lines
-abbrev pub Agree : List ℕ → List ℕ → List ℕ → Type 0
-Agree lines counts later = (line : ℕ) → is_among line lines ≡ true → taken_by later line ≡ taken_by counts line
+module _ {A : Type 0} where
+  -- these later counts are the same for the lines whose passes came back
+  abbrev pub Agree : Known A → List ℕ → List ℕ → Type 0
+  Agree known counts later = (line : ℕ) → seen_by known line ≡ None → taken_by later line ≡ taken_by counts line
 
-pub agree_before : (lines counts later : List ℕ) (line n : ℕ) → is_among line lines ≡ false → Agree (line ∷ lines) (set counts line n) later → Agree lines counts later
-agree_before lines counts later line n out agree other there =
-    agree other (or_right (eqb line other) (is_among other lines) there)
-    ∙ get_or-set_other counts line other n 0 (λ same. true≢false (sym there ∙ ap (λ l. is_among l lines) same ∙ out))
+  pub agree_before : (known : Known A) (counts later : List ℕ) (line n : ℕ) (seen : List (Entry A)) → seen_by known line ≡ Some seen
+      → Agree (set known line None) (set counts line n) later → Agree known counts later
+  agree_before known counts later line n seen there agree other none =
+      let apart : other ≢ line = λ same. none-some seen (sym none ∙ ap (seen_by known) same ∙ there) in
+      agree other (get_or-set_other known line other None None apart ∙ none) ∙ get_or-set_other counts line other n 0 apart
 
-pub noted_here : (lines counts later : List ℕ) (line n : ℕ) → line < length counts → Agree (line ∷ lines) (set counts line n) later → taken_by later line ≡ n
-noted_here lines counts later line n within agree =
-    agree line (or_left (eqb line line) (is_among line lines) (eq-eqb line line refl)) ∙ get_or-set_same counts line n 0 within
+  pub noted_here : (known : Known A) (counts later : List ℕ) (line n : ℕ) (seen : List (Entry A)) → seen_by known line ≡ Some seen → line < length counts
+      → Agree (set known line None) (set counts line n) later → taken_by later line ≡ n
+  noted_here known counts later line n seen there within agree =
+      agree line (get_or-set_same known line None None (is_there known line seen there)) ∙ get_or-set_same counts line n 0 within
 
 none_taken : (lines line : ℕ) → taken_by (replicate lines 0) line ≡ 0
 none_taken lines line = elim (cases_lt line lines) [

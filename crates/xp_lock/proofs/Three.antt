@@ -44,7 +44,7 @@ use Rattle.xp_core.proofs.OtherStates.{others_follow}
 use Rattle.xp_core.proofs.Sounds.{IsRight, run_right}
 use Rattle.xp_machine.proofs.InCall.{end_of, pair, shown_on}
 use Rattle.xp_lock.specs.Outgoing.{to_line}
-use Rattle.xp_lock.specs.CoreWithOutboxes.{is_up}
+use Rattle.xp_lock.specs.Locked.{is_up}
 use Rattle.xp_lock.proofs.Among.{Among, among_or_not}
 
 -- the far end of the call that a line is in, or else the line

@@ -1,8 +1,12 @@
 -- The lines to which some entries put something out (`AreGiven`).
-use Rattle.std.specs.Prelude.{◌≡◌, ◌↔◌, ℕ, ◌<◌, true, false, List, [], ◌∷◌, length}
+use Rattle.std.specs.Prelude.{◌≡◌, ◌↔◌, ℕ, ◌<◌, ◌==◌, ◌||◌, Bool, true, false, List, [], ◌∷◌, length}
 use Rattle.xp_step.specs.declared.entry.Entry.{Entry}
-use Rattle.xp_seats.specs.Among.{is_among}
 use Rattle.xp_lock.specs.Outgoing.{put_out_to}
+
+-- whether a line is among these
+abbrev pub is_among : ℕ → List ℕ → Bool
+is_among line [] = false
+is_among line (other ∷ lines) = (other == line) || is_among line lines
 
 -- no line is there twice
 abbrev pub AreApart : List ℕ → Type 0

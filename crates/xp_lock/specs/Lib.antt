@@ -1,9 +1,10 @@
 pub mod Closing
-pub mod CoreWithOutboxes
+pub mod Entered
 pub mod Faults
 pub mod Forced
 pub mod Given
 pub mod Histories
+pub mod Locked
 pub mod Opening
 pub mod Outboxes
 pub mod Outgoing

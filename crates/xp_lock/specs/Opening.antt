@@ -4,10 +4,10 @@ use Rattle.atomic_table.specs.Seated.{TableId}
 use Rattle.xp_subs.specs.Tables.{Tables}
 use Rattle.xp_lock.specs.Passes.{Pass}
 
--- the subscriptions, the name of the history length beside the lock, and the names of the outboxes' queues by line
+-- the subscriptions, the name of the table of the seats, and the names of the outboxes' queues by line
 pub record Prepared : Type 0 where
   pub subs : Tables
-  pub history_length : TableId
+  pub seats : TableId
   pub queues : List TableId
 
 module _ {A : Type 0} where

@@ -1,6 +1,6 @@
 -- A reload under the lock: lines that must go are given up, and other tables come into force (`Reloads`), or nothing changes
 -- (`RefusesReload`).
-use Rattle.std.specs.Prelude.{◌≡◌, ℕ, ◌+◌, ◌*◌, ◌<◌, ◌≤◌, true, false, List, [], ◌∷◌, ◌++◌, length}
+use Rattle.std.specs.Prelude.{◌≡◌, ℕ, ◌+◌, ◌*◌, ◌<◌, Bool, true, false, List, [], ◌∷◌, ◌++◌, length}
 use Rattle.xp_charge.specs.declared.record.Record.{Record}
 use Rattle.xp_outbox.specs.Ends.{Putting}
 use Rattle.xp_reload.specs.Frame.{KeepsLine}
@@ -17,18 +17,11 @@ use Rattle.xp_core.specs.Reload.{AreGoing, IsLastingRefusal, MayReplace, reload_
 use Rattle.xp_core.specs.declared.reload.ReloadFault.TheVariants.{JournalFull}
 use Rattle.xp_lock.specs.declared.fault.ReloadRefusal.{ReloadRefusal}
 use Rattle.xp_lock.specs.declared.fault.ReloadRefusal.TheVariants.{Halted, Refused, Memory}
-use Rattle.xp_lock.specs.CoreWithOutboxes.{CoreWithOutboxes, IsGiven, world_of}
-use Rattle.xp_lock.specs.Histories.{AreGivenUp, Forcing, all_entries, entries_of}
-use Rattle.xp_lock.specs.Outboxes.{outbox_at}
-use Rattle.xp_lock.specs.Outgoing.{put_out_to}
+use Rattle.xp_lock.specs.Histories.{AreGivenUp, Forcing, all_entries}
+use Rattle.xp_lock.specs.Locked.{IsFilled, Locked}
 
 module _ {A : Type 0} where
-  -- what the entries of an event and of its stalls put out to a line was put into its outbox
-  pub record IsFilled (forcing : Forcing A) (outboxes after : List (Putting (Outgoing A))) : Type 0 where
-    pub count : length after ≡ length outboxes
-    pub each : (line : ℕ) → IsGiven (put_out_to line (entries_of forcing)) (forcing.places line) (outbox_at outboxes line) (outbox_at after line)
-
-  -- so of each of these, one after the other
+  -- what the entries of each of these put out was put into the outboxes, one after the other
   abbrev pub AreFilled : List (Forcing A) → List (Putting (Outgoing A)) → List (Putting (Outgoing A)) → Type 0
   AreFilled [] outboxes after = after ≡ outboxes
   AreFilled (forcing ∷ forcings) outboxes after =
@@ -36,7 +29,7 @@ module _ {A : Type 0} where
 
   -- The lines that must go are given up at this moment, the lowest first, these records are handed over, and then one entry brings the next tables. That
   -- entry puts nothing out and records nothing
-  pub record Reloads (old : CoreWithOutboxes A) (next : Tables) (moment : ℕ) (records : List Record) (new : CoreWithOutboxes A) : Type 0 where
+  pub record Reloads (old : Locked A) (next : Tables) (moment : ℕ) (records : List Record) (new : Locked A) : Type 0 where
     pub running : old.halted ≡ false
     pub given_up : List (Forcing A)
     pub are_given_up : AreGivenUp old.subs old.history next moment given_up
@@ -45,10 +38,10 @@ module _ {A : Type 0} where
     pub brought : entry.tables.items ≡ next ∷ []
     pub quiet : entry.outputs ≡ []
     pub unrecorded : entry.records.items ≡ []
-    pub step : Step old.subs (old.history ++ all_entries given_up) (world_after old.subs (old.history ++ all_entries given_up)) entry (world_of new)
+    pub step : Step old.subs (old.history ++ all_entries given_up) (world_after old.subs (old.history ++ all_entries given_up)) entry (world_after new.subs new.history)
     -- a place that does not keep its line is out of service
     pub out : (line : ℕ) → line < line_count next → (KeepsLine (line_at (in_force old.subs old.history) line) (line_at next line) → ⊥)
-        → is_off (state_at (world_of new) line) ≡ true
+        → is_off (state_at (world_after new.subs new.history) line) ≡ true
     pub filled : AreFilled given_up old.outboxes new.outboxes
     -- those that waited, and those of the calls that ended as lines were given up
     pub taken : records ≡ old.waiting ++ records_of (all_entries given_up)
@@ -60,9 +53,9 @@ module _ {A : Type 0} where
     pub are_going : AreGoing (in_force subs history) (world_after subs history) next going
     pub few : subs.journal < length history + 4 * length going + 1
 
-  -- why the tables did not come into force
-  abbrev pub RefusesReload : CoreWithOutboxes A → Tables → ReloadRefusal → Type 0
-  RefusesReload old next Halted = old.halted ≡ true
-  RefusesReload old next (Refused JournalFull) = (old.halted ≡ false) × LacksPlaces old.subs old.history next
-  RefusesReload old next (Refused fault) = (old.halted ≡ false) × IsLastingRefusal (in_force old.subs old.history) (world_of old) next fault
-  RefusesReload old next Memory = (old.halted ≡ false) × MayReplace (in_force old.subs old.history) (world_of old) next
+  -- Why the tables did not come into force, behind this history. The exchange was halted or not
+  abbrev pub RefusesReload : Bool → Tables → List (Entry A) → Tables → ReloadRefusal → Type 0
+  RefusesReload halted subs history next Halted = halted ≡ true
+  RefusesReload halted subs history next (Refused JournalFull) = (halted ≡ false) × LacksPlaces subs history next
+  RefusesReload halted subs history next (Refused fault) = (halted ≡ false) × IsLastingRefusal (in_force subs history) (world_after subs history) next fault
+  RefusesReload halted subs history next Memory = (halted ≡ false) × MayReplace (in_force subs history) (world_after subs history) next

@@ -2,6 +2,7 @@
 pub mod Closing
 pub mod Given
 pub mod GivingUp
+pub mod Keeping
 pub mod Opening
 pub mod Outboxes
 pub mod Stalling

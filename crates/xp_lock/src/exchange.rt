@@ -1,50 +1,45 @@
 //! The exchange that threads share.
 
-ghost use Rattle.std.specs.Prelude.{◌≡◌, [], ◌∷◌, ◌++◌, false, All, IfErr, IfNone, IfOk, IfSome, OnErr, OnOk, length, replicate};
+ghost use Rattle.std.specs.Prelude.{◌≡◌, [], ◌∷◌, ◌++◌, false, IfErr, IfNone, IfOk, IfSome, OnErr, length, replicate};
 ghost use mathlib.Core.List.{IsPrefix};
-ghost use Rattle.xp_charge.specs.Lines.{HasLines as NamesLines};
 ghost use Rattle.xp_subs.specs.Tables.{line_count};
 ghost use Rattle.xp_step.specs.Exchange.{IsReadable};
-ghost use Rattle.xp_core.specs.Records.{OneRecordEach, records_of};
-ghost use Rattle.xp_step.specs.Worlds.{world_after};
 ghost use Rattle.xp_lock.specs.Closing.{AreCounted, PassesMatch, HasAll, IsMissing, NoneTwice, all_handed, handed_together, own_entries_together};
 ghost use Rattle.xp_lock.specs.Faults.{event_in};
 ghost use Rattle.xp_seats.specs.Handed.{is_raised};
 ghost use Rattle.xp_lock.specs.Outgoing.{put_out_to};
 ghost use Rattle.xp_lock.specs.Passes.{GainsEvent, IsLegal};
 ghost use Rattle.xp_seats.specs.Views.{StartsWith};
-ghost use Rattle.xp_step.specs.InForce.{in_force};
-ghost use Rattle.xp_view.specs.Views.{Shows};
 
 use crate::book::Book;
-use crate::fault::{CloseFault, OfferFault, ReloadRefusal};
-use crate::guard::ExchangeGuard;
+use crate::fault::{CloseFault, OfferFault};
 use crate::keeper::Keeper;
-use crate::look::Look;
 use crate::missing::first_missing;
 use crate::pass::LinePass;
 use crate::receipt::Receipt;
 use crossbeam_utils::Backoff;
-use std::alloc::{AllocError, Allocator, Global};
+use std::alloc::{Allocator, Global};
 use std::marker::Model;
 use std::sync::atomic::AtomicBool;
 use std::sync::atomic::Ordering::SeqCst;
-use std::sync::{Mutex, Wait};
-use xp_charge::Record;
-use xp_seats::{HistoryLength, Name, Recorder};
+use std::sync::{Mutex, MutexGuard, Wait};
+use xp_seats::{Name, Recorder};
 use xp_step::{Event, Outgoing};
-use xp_subs::{LineNo, Subs};
+use xp_subs::LineNo;
 
 /// How often a thread tries to take the lock before it sleeps until the lock is free. Between two tries it waits for a moment, and
 /// after some tries lets other threads run.
 const MOST_TRIES: u32 = 100;
+
+/// The exchange while a thread holds its lock. The thread frees the lock as it drops the guard. A thread that has several
+/// events to offer takes the lock once for all of them. Until it drops the guard, no other thread's events are entered.
+pub type ExchangeGuard<'a, N, A = Global> = MutexGuard<'a, Keeper<N, A>>;
 
 /// The exchange that threads share. `N` names it.
 pub struct Exchange<N: Name, A: Allocator = Global> {
     lock: Mutex<Keeper<N, A>>,
     /// Whether the keeper refuses every event. It stands beside the lock, since each line reads it in each of its turns.
     halted: AtomicBool,
-    history_length: HistoryLength<A>,
     lines: LineNo,
     /// Room for the counts of what the lines took, so that closing allocates nothing.
     taken: Vec<u64, A>,
@@ -55,7 +50,6 @@ impl<N: Name, A: Allocator> Drop for Exchange<N, A> {
         let Exchange {
             lock: _,
             halted: _,
-            history_length: _,
             lines: _,
             taken: _,
         } = self;
@@ -70,35 +64,28 @@ impl<N: Name, A: Allocator> Model for Exchange<N, A> {
 
     ghost view = { λ _. 0 };
 
-    ghost invariant = { λ x. (x.history_length ≡ N.history_length) × (x.lines ≡ line_count N.subs) × (x.taken.items ≡ replicate (line_count N.subs) 0) };
+    ghost invariant = { λ x. (x.lines ≡ line_count N.subs) × (x.taken.items ≡ replicate (line_count N.subs) 0) };
 }
 
 impl<N: Name, A: Allocator + Copy> Exchange<N, A> {
     /// The exchange around this keeper.
-    pub(crate) fn new(
-        keeper: Keeper<N, A>,
-        history_length: HistoryLength<A>,
-        lines: LineNo,
-        taken: Vec<u64, A>,
-    ) -> Exchange<N, A>
-        requires history_length { history_length ≡ N.history_length }
+    pub(crate) fn new(keeper: Keeper<N, A>, lines: LineNo, taken: Vec<u64, A>) -> Exchange<N, A>
         requires lines { lines ≡ line_count N.subs }
         requires taken { taken.items ≡ replicate (line_count N.subs) 0 }
     {
         Exchange {
             lock: Mutex::new(keeper),
             halted: AtomicBool::new(false),
-            history_length,
             lines,
             taken,
         }
     }
 
-    /// Takes the lock, and enters one event of the pass's line with the stalls that the event forces.
+    /// Takes the lock, and enters one event of the pass's line with the stalls that the event forces, as `Keeper::offer` does.
     ///
     /// # Errors
     ///
-    /// Those of `Keeper::take`. The fault gives the event back, and the pass stays as it was.
+    /// Those of `Keeper::offer`.
     pub fn offer<R: Wait>(
         &self,
         rt: &R,
@@ -121,11 +108,11 @@ impl<N: Name, A: Allocator + Copy> Exchange<N, A> {
         let backoff = Backoff::new();
         for _try in 0..MOST_TRIES {
             if let Some(keeper) = self.lock.try_lock() {
-                return ExchangeGuard::new(keeper, &self.history_length);
+                return keeper;
             }
             backoff.snooze();
         }
-        ExchangeGuard::new(self.lock.lock(rt), &self.history_length)
+        self.lock.lock(rt)
     }
 
     /// Takes the oldest output from the outbox of the pass's line, or returns `None` where it finds none. Then the line has taken
@@ -135,83 +122,9 @@ impl<N: Name, A: Allocator + Copy> Exchange<N, A> {
         ensures none { IfNone result (pass.new ≡ pass.old) }
         ensures all { IfNone result (IsPrefix (put_out_to pass.old.line pass.old.seen) pass.old.taken) }
     {
-        pass.next_out(rt)
-    }
-
-    /// Takes the lock, and hands over the charging records that wait: those of the calls that ended since the recorder last took
-    /// records, in the order in which they ended. So each record is handed over once. The recorder then has received the records
-    /// of the history as it now knows it, one for each call that ended, and no other. They name lines of the subscriptions. The
-    /// lock is held for the time that it takes to move these records into a new list.
-    ///
-    /// # Errors
-    ///
-    /// `AllocError` if an allocation fails. Then no record was handed over, and the recorder stays as it was.
-    pub fn take_records<R: Wait>(
-        &self,
-        rt: &R,
-        recorder: &mut Recorder<N, A>,
-    ) -> Result<Vec<Record, A>, AllocError>
-        ensures taken { IfOk result (λ taken. recorder.new.received ≡ recorder.old.received ++ taken.items) }
-        ensures each { OnOk result (recorder.new.received ≡ records_of recorder.new.seen) }
-        ensures seen { OnOk result (StartsWith recorder.new.seen recorder.old.seen) }
-        ensures legal { OnOk result (IsLegal N.subs recorder.new.seen) }
-        ensures one_each { OnOk result (OneRecordEach N.subs recorder.new.seen (world_after N.subs recorder.new.seen)) }
-        ensures lines { IfOk result (λ taken. All (NamesLines (line_count N.subs)) taken.items) }
-        ensures err { OnErr result (recorder.new ≡ recorder.old) }
-    {
-        self.lock(rt).take_records(recorder)
-    }
-
-    /// Takes the lock, hands over the charging records that wait, as `take_records` does, and shows the exchange as it is then: each
-    /// line, and the call that it is in, in the state to which the history leads that the recorder now knows. The lock is held for
-    /// the time that it takes to look at each line once.
-    ///
-    /// # Errors
-    ///
-    /// `AllocError` if an allocation fails. Then no record was handed over, and the recorder stays as it was.
-    pub fn look<R: Wait>(
-        &self,
-        rt: &R,
-        alloc: A,
-        recorder: &mut Recorder<N, A>,
-    ) -> Result<Look<A>, AllocError>
-        ensures taken { IfOk result (λ look. recorder.new.received ≡ recorder.old.received ++ look.records.items) }
-        ensures each { OnOk result (recorder.new.received ≡ records_of recorder.new.seen) }
-        ensures seen { OnOk result (StartsWith recorder.new.seen recorder.old.seen) }
-        ensures legal { OnOk result (IsLegal N.subs recorder.new.seen) }
-        ensures one_each { OnOk result (OneRecordEach N.subs recorder.new.seen (world_after N.subs recorder.new.seen)) }
-        ensures lines { IfOk result (λ look. All (NamesLines (line_count N.subs)) look.records.items) }
-        ensures shows { IfOk result (λ look. Shows N.subs recorder.new.seen look.view) }
-        ensures err { OnErr result (recorder.new ≡ recorder.old) }
-    {
-        self.lock(rt).look(alloc, recorder)
-    }
-
-    /// Takes the lock, gives up the lines that must go before other subscriptions come into force, hands over the charging records that
-    /// wait then, as `take_records` does, and puts the subscriptions into force, all at this moment. A line must go that is in service,
-    /// and that its place does not keep: its call ends, its connection is closed, and its far end is told, as for every stall. The
-    /// recorder knows a history in which these subscriptions are in force.
-    ///
-    /// # Errors
-    ///
-    /// Those of `Keeper::reload`. Then nothing has changed, no record was handed over, and the recorder stays as it was.
-    pub fn reload<R: Wait>(
-        &self,
-        rt: &R,
-        recorder: &mut Recorder<N, A>,
-        next: Subs,
-        moment: u64,
-    ) -> Result<Vec<Record, A>, ReloadRefusal>
-        ensures taken { IfOk result (λ taken. recorder.new.received ≡ recorder.old.received ++ taken.items) }
-        ensures each { OnOk result (recorder.new.received ≡ records_of recorder.new.seen) }
-        ensures seen { OnOk result (StartsWith recorder.new.seen recorder.old.seen) }
-        ensures legal { OnOk result (IsLegal N.subs recorder.new.seen) }
-        ensures one_each { OnOk result (OneRecordEach N.subs recorder.new.seen (world_after N.subs recorder.new.seen)) }
-        ensures lines { IfOk result (λ taken. All (NamesLines (line_count N.subs)) taken.items) }
-        ensures in_force { OnOk result (in_force N.subs recorder.new.seen ≡ next) }
-        ensures err { OnErr result (recorder.new ≡ recorder.old) }
-    {
-        self.lock(rt).reload(rt, recorder, next, moment)
+        let item = pass.outbox.take(rt)?;
+        pass.count = pass.count.saturating_add(1);
+        Some(item)
     }
 
     /// Makes the exchange refuse every later offer.
@@ -263,12 +176,11 @@ impl<N: Name, A: Allocator + Copy> Exchange<N, A> {
         let Exchange {
             lock,
             halted: _,
-            history_length,
             lines: _,
             taken,
         } = self;
         let keeper = lock.into_inner();
-        let book = keeper.close(rt, &history_length, passes, recorder, taken);
+        let book = keeper.close(rt, passes, recorder, taken);
         let _legal = book.count();
         Ok(book)
     }

@@ -2,7 +2,7 @@
 
 ghost use Rattle.std.specs.Prelude.{◌≡◌, ◌≤◌, length};
 ghost use Rattle.xp_lock.specs.steps.Given.{with_lines};
-ghost use Rattle.xp_seats.specs.Among.{is_among};
+ghost use Rattle.xp_lock.specs.Given.{is_among};
 
 use arrayvec::ArrayVec;
 use std::alloc::Allocator;

@@ -1,6 +1,6 @@
 //! How lines are given up, and other subscriptions come into force.
 
-ghost use Rattle.std.specs.Prelude.{◌≡◌, ◌+◌, ◌<◌, ◌≤◌, ◌++◌, [], All, IfErr, IfOk, length, vec_capacity};
+ghost use Rattle.std.specs.Prelude.{◌≡◌, ◌+◌, ◌<◌, ◌≤◌, ◌++◌, [], false, All, IfErr, IfOk, length, vec_capacity};
 ghost use Rattle.xp_charge.specs.Lines.{HasLines as NamesLines};
 ghost use Rattle.xp_core.specs.Records.{records_of};
 ghost use Rattle.xp_step.specs.Exchange.{world_of};
@@ -45,7 +45,7 @@ pub fn prepare_reload<A: Allocator + Copy>(
     next: &Subs,
 ) -> Result<PreparedReload<A>, ReloadRefusal>
     ensures ok { IfOk result (λ prepared. IsPreparedFor core.new next.now prepared) }
-    ensures refused { IfErr result (RefusesReload (with_outboxes core.old []) next.now) }
+    ensures refused { IfErr result (RefusesReload false core.old.subs core.old.history next.now) }
     ensures rest { core.new ≡ record core.old { stalls = core.new.stalls } }
 {
     let entries = core.count();

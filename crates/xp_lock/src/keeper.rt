@@ -1,79 +1,86 @@
 //! What the lock protects.
 
-ghost use Rattle.std.specs.Prelude.{◌≡◌, ◌<◌, ◌^◌, [], ◌∷◌, ◌++◌, false, true, All, IfOk, IfErr, OnErr, OnOk, length, map, replicate};
+ghost use Rattle.std.specs.Prelude.{◌≡◌, ◌<◌, ◌^◌, [], ◌∷◌, ◌++◌, false, true, IfErr, IfOk, None, OnErr, OnOk, Some, length, map, replicate, slice_set};
 ghost use mathlib.Core.List.{IsPrefix};
-ghost use Rattle.xp_charge.specs.Lines.{HasLines as NamesLines};
 ghost use Rattle.xp_subs.specs.Tables.{line_count};
 ghost use Rattle.xp_step.specs.Exchange.{IsReadable};
-ghost use Rattle.xp_core.specs.Records.{OneRecordEach, records_of};
-ghost use Rattle.xp_step.specs.Worlds.{world_after};
-ghost use Rattle.xp_lock.specs.Outboxes.{HaveCapacity, outbox_at};
-ghost use Rattle.xp_lock.specs.Closing.{AreCounted, PassesMatch, NoneTwice};
-ghost use Rattle.xp_seats.specs.Among.{is_among};
-ghost use Rattle.xp_seats.specs.Handed.{handed, is_raised};
-ghost use Rattle.xp_lock.specs.Passes.{GainsEvent, IsLegal, own_entries};
-ghost use Rattle.xp_lock.specs.CoreWithOutboxes.{Refuses, Takes};
-ghost use Rattle.xp_lock.specs.Reloading.{RefusesReload, Reloads};
 ghost use Rattle.xp_step.specs.InForce.{in_force};
-ghost use Rattle.xp_seats.specs.Views.{StartsWith, closing, keeping};
+ghost use Rattle.xp_lock.specs.Closing.{AreCounted, NoneTwice, PassesMatch};
+ghost use Rattle.xp_lock.specs.Faults.{event_in};
+ghost use Rattle.xp_lock.specs.Locked.{Refuses, Takes};
+ghost use Rattle.xp_lock.specs.Outboxes.{HaveCapacity, outbox_at};
+ghost use Rattle.xp_lock.specs.Passes.{GainsEvent};
+ghost use Rattle.xp_lock.specs.Reloading.{RefusesReload, Reloads};
+ghost use Rattle.xp_lock.specs.steps.Outboxes.{OutboxesMatch};
+ghost use Rattle.xp_seats.specs.Handed.{is_raised};
+ghost use Rattle.xp_seats.specs.Recording.{Receives};
+ghost use Rattle.xp_seats.specs.Views.{StartsWith, seen_by};
 ghost use Rattle.xp_view.specs.Views.{Shows};
 
 use crate::book::Book;
-use crate::core_with_outboxes::CoreWithOutboxes;
+use crate::entering::enter;
 use crate::fault::{OfferFault, ReloadRefusal};
-use crate::outboxes::OutboxPutEnd;
+use crate::giving_up::{bring_into_force, prepare_reload};
+use crate::look::Look;
+use crate::outboxes::{OutboxPutEnd, has_room, tell_put};
 use crate::pass::LinePass;
 use crate::receipt::Receipt;
 use std::alloc::{AllocError, Allocator, Global};
 use std::marker::{Model, PhantomData};
 use std::sync::Wait;
 use xp_charge::Record;
+use xp_core::Core;
 use xp_outbox::count_untaken;
-use xp_seats::{HistoryLength, HistorySeat, Name, Recorder};
-use xp_step::Event;
+use xp_seats::{Name, Recorder, SeatsForProofs};
+use xp_step::{Event, MOST_STALLS};
 use xp_subs::Subs;
 use xp_view::ExchangeView;
 
-/// What the lock protects: the exchange with its outboxes, and the seat that knows the whole history. The records of the front
-/// that the recorder saw were handed over, and no others.
+/// How many places of the history must be left: one for the event, and three for the stalls that it may force.
+const PLACES_FOR_AN_EVENT: u64 = 4;
+
+/// What the lock protects: the exchange, the put ends of its lines' outboxes, whether it refuses every event, and, for proofs alone, who
+/// has seen how much of the history.
 #[derive(Drop)]
 pub struct Keeper<N: Name, A: Allocator = Global> {
-    core_with_outboxes: CoreWithOutboxes<A>,
-    history_seat: HistorySeat<A>,
+    core: Core<A>,
+    outboxes: Vec<OutboxPutEnd<A>, A>,
+    halted: bool,
+    seats: SeatsForProofs<A>,
     name: PhantomData<N>,
 }
 
 impl<N: Name, A: Allocator> Model for Keeper<N, A> {
-    ghost use Rattle.std.specs.Prelude.{◌≡◌, map};
-    ghost use Rattle.xp_subs.specs.Tables.{line_count};
-    ghost use Rattle.xp_core.specs.Records.{records_of};
-    ghost use Rattle.xp_lock.specs.CoreWithOutboxes.{CoreWithOutboxes as Seen};
+    ghost use Rattle.xp_lock.specs.Locked.{Locked};
+    ghost use Rattle.xp_lock.specs.steps.Keeping.{IsKept};
 
-    ghost Value = { Seen A };
+    ghost Value = { Locked A };
 
-    ghost use Rattle.xp_seats.specs.Views.{keeping};
+    ghost view = { λ k. record { subs = k.core.subs; history = k.core.history; given = k.core.given; waiting = k.core.waiting; outboxes = k.outboxes.items; halted = k.halted } };
 
-    ghost view = { λ k. k.core_with_outboxes };
-
-    ghost invariant = { λ k. (k.history_seat.history_length ≡ N.history_length) × (k.history_seat.knows ≡ keeping (line_count N.subs) k.core_with_outboxes.history k.history_seat.knows.recorded) × (k.core_with_outboxes.subs ≡ N.subs) × (map (λ b. b.queue) k.core_with_outboxes.outboxes ≡ N.queues) × (k.core_with_outboxes.given ≡ records_of k.history_seat.knows.recorded) };
+    ghost invariant = { λ k. IsKept N.subs N.queues N.seats k.core k.outboxes.items k.seats };
 }
 
 impl<N: Name, A: Allocator + Copy> Keeper<N, A> {
-    /// The keeper of this exchange and this seat. No record was handed over yet.
+    /// The keeper of this exchange and these outboxes. It is not halted, no record was handed over, and the lines and the recorder have
+    /// seen nothing yet.
     pub(crate) fn new(
-        core_with_outboxes: CoreWithOutboxes<A>,
-        history_seat: HistorySeat<A>,
+        core: Core<A>,
+        outboxes: Vec<OutboxPutEnd<A>, A>,
+        seats: SeatsForProofs<A>,
     ) -> Keeper<N, A>
-        requires history_length { history_seat.history_length ≡ N.history_length }
-        requires knows { history_seat.knows ≡ keeping (line_count N.subs) core_with_outboxes.history [] }
-        requires subs { core_with_outboxes.subs ≡ N.subs }
-        requires queues { map (λ b. b.queue) core_with_outboxes.outboxes ≡ N.queues }
-        requires given { core_with_outboxes.given ≡ [] }
-        ensures { result ≡ core_with_outboxes }
+        requires subs { core.subs ≡ N.subs }
+        requires history { core.history ≡ [] }
+        requires given { core.given ≡ [] }
+        requires queues { map (λ b. b.queue) outboxes.items ≡ N.queues }
+        requires matches { OutboxesMatch core.subs [] outboxes.items }
+        requires seats { seats ≡ record { table = N.seats; known = replicate (line_count N.subs) (Some []) ++ Some [] ∷ [] } }
     {
         Keeper {
-            core_with_outboxes,
-            history_seat,
+            core,
+            outboxes,
+            halted: false,
+            seats,
             name: PhantomData,
         }
     }
@@ -93,75 +100,85 @@ impl<N: Name, A: Allocator + Copy> Keeper<N, A> {
     ///
     /// The fault gives the event back. Nothing has changed, except that the exchange looked at the free places of the line
     /// where the event is an Up. The pass stays as it was.
-    pub fn take<R: Wait>(
+    pub fn offer<R: Wait>(
         &mut self,
         rt: &R,
-        history_length: &HistoryLength<A>,
         pass: &mut LinePass<N, A>,
         event: Event<A>,
     ) -> Result<Receipt, OfferFault<A>>
-        requires history_length { history_length.now ≡ N.history_length }
         requires line { event.line ≡ pass.old.line }
         requires readable { IsReadable event.what }
         requires kind { is_raised event.what ≡ false }
-        ensures ok { IfOk result (λ done. Takes self.old event done self.new) }
-        ensures fresh { IfOk result (λ done. GainsEvent N.subs pass.old event done pass.new) }
+        ensures takes { IfOk result (λ done. Takes self.old event done self.new) }
+        ensures ok { IfOk result (λ done. GainsEvent N.subs pass.old event done pass.new) }
         ensures shown { OnOk result (pass.new.seen ≡ self.new.history) }
-        ensures err { IfErr result (λ fault. Refuses self.old event fault self.new) }
+        ensures refuses { IfErr result (λ fault. Refuses self.old event fault self.new) }
+        ensures err { IfErr result (λ fault. event_in fault ≡ event) }
         ensures pass { OnErr result (pass.new ≡ pass.old) }
         ensures capacities { HaveCapacity (line_count N.subs) self.new.outboxes }
     {
         let line = pass.line;
-        let before = self.core_with_outboxes.core().count();
-        let done = self.core_with_outboxes.take(rt, event)?;
-        let core = self.core_with_outboxes.core();
-        let _legal = core.count();
-        history_length.refresh(&mut self.history_seat, &mut pass.history_seat, core, before);
-        self.core_with_outboxes.tell(line, &mut pass.outbox);
+        if self.halted {
+            return Err(OfferFault::Halted(event));
+        }
+        if self.core.count() + PLACES_FOR_AN_EVENT > self.core.subs().journal() {
+            return Err(OfferFault::JournalFull(event));
+        }
+        if !has_room(rt, &mut self.outboxes, &event) {
+            return Err(OfferFault::NoRoom(event));
+        }
+        if self.core.reserve_stalls(MOST_STALLS).is_err() {
+            return Err(OfferFault::Memory(event));
+        }
+        let done = enter(rt, &mut self.core, &mut self.outboxes, event)?;
+        let _legal = self.core.count();
+        self.seats.show(&mut pass.seat, &self.core);
+        tell_put(&mut self.outboxes, line, &mut pass.outbox);
         Ok(done)
     }
 
     /// Hands over the charging records that wait: those of the calls that ended since the recorder last took records, in the
-    /// order in which they ended. The recorder then has seen the whole history, and has received its records, each once. They name
-    /// lines of the subscriptions.
+    /// order in which they ended. So each record is handed over once. The recorder then has seen the whole history.
     ///
     /// # Errors
     ///
     /// `AllocError` if an allocation fails. Then no record was handed over, and the recorder stays as it was.
     pub fn take_records(
         &mut self,
-        history_length: &HistoryLength<A>,
         recorder: &mut Recorder<N, A>,
     ) -> Result<Vec<Record, A>, AllocError>
-        requires history_length { history_length.now ≡ N.history_length }
         ensures ok { OnOk result (self.new ≡ record self.old { given = self.old.given ++ self.old.waiting; waiting = [] }) }
         ensures waiting { IfOk result (λ taken. taken.items ≡ self.old.waiting) }
-        ensures taken { IfOk result (λ taken. recorder.new.received ≡ recorder.old.received ++ taken.items) }
+        ensures receives { IfOk result (λ taken. Receives N.subs recorder.old taken.items recorder.new) }
         ensures shown { OnOk result (recorder.new.seen ≡ self.old.history) }
-        ensures each { OnOk result (recorder.new.received ≡ records_of recorder.new.seen) }
-        ensures seen { OnOk result (StartsWith recorder.new.seen recorder.old.seen) }
-        ensures legal { OnOk result (IsLegal N.subs recorder.new.seen) }
-        ensures one_each { OnOk result (OneRecordEach N.subs recorder.new.seen (world_after N.subs recorder.new.seen)) }
-        ensures lines { IfOk result (λ taken. All (NamesLines (line_count N.subs)) taken.items) }
-        ensures err { OnErr result (self.new ≡ self.old) }
-        ensures recorder { OnErr result (recorder.new ≡ recorder.old) }
+        ensures unchanged { OnErr result (self.new ≡ self.old) }
+        ensures err { OnErr result (recorder.new ≡ recorder.old) }
     {
-        let taken = self.core_with_outboxes.take_records()?;
-        let core = self.core_with_outboxes.core();
-        let _legal = core.count();
-        let _records = core.records();
-        recorder.receive(
-            history_length,
-            &mut self.history_seat,
-            core,
-            taken.as_slice(),
-        );
+        let taken = self.core.take_records()?;
+        recorder.receive(&mut self.seats, &self.core, taken.as_slice());
         Ok(taken)
     }
 
-    /// Gives up the lines that must go before these subscriptions come into force, hands over the charging records that wait then, as
-    /// `take_records` does, and puts the subscriptions into force, all at this moment. The recorder then has seen the whole history,
-    /// and has received its records, each once.
+    /// Hands over the charging records that wait, as `take_records` does, and shows the exchange as it is then: each line, and the
+    /// call that it is in, in the state to which the history leads that the recorder now knows.
+    ///
+    /// # Errors
+    ///
+    /// `AllocError` if an allocation fails. Then no record was handed over, and the recorder stays as it was.
+    pub fn look(&mut self, alloc: A, recorder: &mut Recorder<N, A>) -> Result<Look<A>, AllocError>
+        ensures receives { IfOk result (λ look. Receives N.subs recorder.old look.records.items recorder.new) }
+        ensures shows { IfOk result (λ look. Shows N.subs recorder.new.seen look.view) }
+        ensures err { OnErr result (recorder.new ≡ recorder.old) }
+    {
+        let view = ExchangeView::of(alloc, &self.core)?;
+        let records = self.take_records(recorder)?;
+        Ok(Look { records, view })
+    }
+
+    /// Gives up the lines that must go before other subscriptions come into force, hands over the charging records that wait then, as
+    /// `take_records` does, and puts the subscriptions into force, all at this moment. A line must go that is in service, and that its
+    /// place does not keep: its call ends, its connection is closed, and its far end is told, as for every stall. The recorder knows a
+    /// history in which these subscriptions are in force.
     ///
     /// # Errors
     ///
@@ -171,63 +188,51 @@ impl<N: Name, A: Allocator + Copy> Keeper<N, A> {
     pub fn reload<R: Wait>(
         &mut self,
         rt: &R,
-        history_length: &HistoryLength<A>,
         recorder: &mut Recorder<N, A>,
         next: Subs,
         moment: u64,
     ) -> Result<Vec<Record, A>, ReloadRefusal>
-        requires history_length { history_length.now ≡ N.history_length }
         ensures ok { IfOk result (λ taken. Reloads self.old next moment taken.items self.new) }
-        ensures refused { IfErr result (RefusesReload self.old next) }
-        ensures err { OnErr result (self.new ≡ self.old) }
-        ensures taken { IfOk result (λ taken. recorder.new.received ≡ recorder.old.received ++ taken.items) }
+        ensures receives { IfOk result (λ taken. Receives N.subs recorder.old taken.items recorder.new) }
         ensures shown { OnOk result (recorder.new.seen ≡ self.new.history) }
-        ensures each { OnOk result (recorder.new.received ≡ records_of recorder.new.seen) }
-        ensures seen { OnOk result (StartsWith recorder.new.seen recorder.old.seen) }
-        ensures legal { OnOk result (IsLegal N.subs recorder.new.seen) }
-        ensures one_each { OnOk result (OneRecordEach N.subs recorder.new.seen (world_after N.subs recorder.new.seen)) }
-        ensures lines { IfOk result (λ taken. All (NamesLines (line_count N.subs)) taken.items) }
         ensures in_force { OnOk result (in_force N.subs recorder.new.seen ≡ next) }
-        ensures recorder { OnErr result (recorder.new ≡ recorder.old) }
+        ensures refused { IfErr result (RefusesReload self.old.halted self.old.subs self.old.history next) }
+        ensures unchanged { OnErr result (self.new ≡ self.old) }
+        ensures err { OnErr result (recorder.new ≡ recorder.old) }
     {
-        let before = self.core_with_outboxes.core().count();
-        let taken = self.core_with_outboxes.reload(rt, next, moment)?;
-        let core = self.core_with_outboxes.core();
-        let _legal = core.count();
-        let _records = core.records();
-        history_length.extend(&mut self.history_seat, core, before);
-        recorder.receive(
-            history_length,
-            &mut self.history_seat,
-            core,
-            taken.as_slice(),
+        if self.halted {
+            return Err(ReloadRefusal::Halted);
+        }
+        let prepared = prepare_reload(&mut self.core, &next)?;
+        let taken = bring_into_force(
+            rt,
+            &mut self.core,
+            &mut self.outboxes,
+            prepared,
+            next,
+            moment,
         );
+        recorder.receive(&mut self.seats, &self.core, taken.as_slice());
         Ok(taken)
     }
 
-    /// What can be seen of the exchange now.
-    ///
-    /// # Errors
-    ///
-    /// `AllocError` if an allocation fails.
-    pub fn view(&self, alloc: A) -> Result<ExchangeView<A>, AllocError>
-        ensures { IfOk result (Shows N.subs self.now.history) }
+    /// Makes the exchange refuse every later event.
+    pub fn halt(&mut self)
+        ensures { self.new ≡ record self.old { halted = true } }
     {
-        ExchangeView::of(alloc, self.core_with_outboxes.core())
+        self.halted = true;
     }
 
     /// Compares what each pass has seen and taken with the history, counts what it took, and returns the book. No line has
     /// two passes here. What the recorder saw and received is compared too. The caller passes a zero for each line, as room for
     /// the counts.
-    pub fn close<R: Wait>(
+    pub(crate) fn close<R: Wait>(
         self,
         rt: &R,
-        history_length: &HistoryLength<A>,
         passes: Vec<LinePass<N, A>, A>,
         recorder: Recorder<N, A>,
         zeros: Vec<u64, A>,
     ) -> Book<A>
-        requires history_length { history_length.now ≡ N.history_length }
         requires zeros { zeros.items ≡ replicate (line_count N.subs) 0 }
         ensures subs { result.subs ≡ N.subs }
         ensures history { result.history ≡ self.history }
@@ -238,55 +243,38 @@ impl<N: Name, A: Allocator + Copy> Keeper<N, A> {
         ensures given { result.given ≡ recorder.received }
     {
         let Keeper {
-            core_with_outboxes,
-            history_seat,
+            core,
+            outboxes,
+            halted: _,
+            seats,
             name: _,
         } = self;
-        let (core, outboxes) = core_with_outboxes.into_parts();
-        let mut history_seat = history_seat;
-        recorder.compare(history_length, &mut history_seat);
+        let mut seats = seats;
+        recorder.give_back(&mut seats);
         let mut outboxes = outboxes;
         let mut taken = zeros;
         let _entries = core.count();
         for pass in passes {
             let at = pass.line as usize;
-            taken[at] = compare_pass(rt, history_length, &mut history_seat, &mut outboxes, pass);
+            taken[at] = take_back(rt, &mut seats, &mut outboxes, pass);
         }
         Book::new(core, taken)
     }
-
-    /// Makes the exchange refuse every later event.
-    pub fn halt(&mut self)
-        ensures { self.new ≡ record self.old { halted = true } }
-    {
-        self.core_with_outboxes.halt();
-    }
-
-    /// Whether the exchange refuses every event.
-    pub fn is_halted(&self) -> bool
-        ensures { result ≡ self.now.halted }
-    {
-        self.core_with_outboxes.is_halted()
-    }
 }
 
-/// Compares what a pass has seen with the history, and what it took with what was put into its outbox. Returns how many
-/// items it took.
-fn compare_pass<N: Name, A: Allocator, R: Wait>(
+/// Takes a pass back. The keeper knew what it saw. Compares what it took with what was put into its outbox, and returns how many items
+/// that are.
+fn take_back<N: Name, A: Allocator, R: Wait>(
     rt: &R,
-    history_length: &HistoryLength<A>,
-    keeper: &mut HistorySeat<A>,
+    seats: &mut SeatsForProofs<A>,
     outboxes: &mut Vec<OutboxPutEnd<A>, A>,
     pass: LinePass<N, A>,
 ) -> u64
-    requires history_length { (history_length.now ≡ N.history_length) × (keeper.old.history_length ≡ N.history_length) }
-    requires keeper { keeper.old.knows ≡ closing keeper.old.knows.next keeper.old.knows.all keeper.old.knows.recorded keeper.old.knows.returned }
+    requires seats { seats.old.table ≡ N.seats }
     requires outboxes { map (λ b. b.queue) outboxes.old.items ≡ N.queues }
-    ensures keeper { keeper.new ≡ record keeper.old { knows = closing keeper.old.knows.next keeper.old.knows.all keeper.old.knows.recorded (pass.line ∷ keeper.old.knows.returned) } }
-    ensures once { is_among pass.line keeper.old.knows.returned ≡ false }
+    ensures seats { seats.new ≡ record seats.old { known = slice_set seats.old.known pass.line None } }
+    ensures agree { seen_by seats.old.known pass.line ≡ Some pass.seen }
     ensures outboxes { outboxes.new.items ≡ outboxes.old.items }
-    ensures seen { StartsWith keeper.old.knows.all pass.seen }
-    ensures own { handed pass.line keeper.old.knows.all ≡ own_entries pass }
     ensures there { pass.line < length outboxes.old.items }
     ensures taken { IsPrefix pass.taken (outbox_at outboxes.old.items pass.line).put }
     ensures count { length pass.taken < 2 ^ 64 → result ≡ length pass.taken }
@@ -294,12 +282,12 @@ fn compare_pass<N: Name, A: Allocator, R: Wait>(
     let LinePass {
         line,
         modulus: _,
-        history_seat,
+        seat,
         outbox,
         count,
         name: _,
     } = pass;
-    history_length.compare(keeper, history_seat);
+    seats.take_back(seat);
     let at = line as usize;
     let end = &mut outboxes[at];
     count_untaken(rt, end, outbox);

@@ -2,13 +2,11 @@
 #![tactic(auto)]
 
 mod book;
-mod core_with_outboxes;
 mod entering;
 mod exchange;
 mod fault;
 mod given;
 mod giving_up;
-mod guard;
 mod keeper;
 mod look;
 mod missing;
@@ -20,9 +18,8 @@ mod stalling;
 mod start;
 
 pub use book::Book;
-pub use exchange::Exchange;
+pub use exchange::{Exchange, ExchangeGuard};
 pub use fault::{CloseFault, OfferFault, ReloadRefusal};
-pub use guard::ExchangeGuard;
 pub use keeper::Keeper;
 pub use look::Look;
 pub use pass::LinePass;

@@ -1,6 +1,7 @@
 //! The put ends of the lines' outboxes: what puts outputs into them, and what looks at their free places.
 
 ghost use Rattle.std.specs.Prelude.{◌≡◌, ◌<◌, ◌≤◌, true, false, [], ◌∷◌, Some, length, map, slice_get, slice_set};
+ghost use Rattle.xp_lock.specs.Locked.{is_up};
 ghost use Rattle.xp_lock.specs.steps.Given.{with_lines};
 ghost use Rattle.xp_lock.specs.Outboxes.{IsLookedAt, LooksIf, PLACES_KEPT, outbox_at};
 ghost use Rattle.xp_lock.specs.steps.Outboxes.{HasRoomFor, IsPut, with_items};
@@ -11,7 +12,7 @@ use std::sync::Wait;
 use std::thread;
 use xp_core::Core;
 use xp_outbox::{PutEnd, TakeEnd};
-use xp_step::{Outgoing, Output, Outputs};
+use xp_step::{Event, Outgoing, Output, Outputs, What};
 use xp_subs::LineNo;
 
 /// How many free places the outbox of a line in service has to have.
@@ -86,23 +87,29 @@ pub fn tell_put<A: Allocator>(
     end.tell(taken);
 }
 
-/// Whether an event of this line may be entered. An event that is no Up always may. For an Up it looks at the free places
-/// of the line, and at least 24 must be free.
+/// Whether an event may be entered. One that is no Up always may. For an Up it looks at the free places of the line, and at
+/// least 24 must be free.
 pub fn has_room<A: Allocator, R: Wait>(
     rt: &R,
     outboxes: &mut Vec<OutboxPutEnd<A>, A>,
-    line: LineNo,
-    comes_up: bool,
+    event: &Event<A>,
 ) -> bool
-    requires { line < length outboxes.old.items }
-    ensures looks { LooksIf comes_up line outboxes.old.items outboxes.new.items }
-    ensures room { comes_up ≡ true → result ≡ true → PLACES_KEPT ≤ (outbox_at outboxes.new.items line).free }
-    ensures none { result ≡ false → (comes_up ≡ true) × ((outbox_at outboxes.new.items line).free < PLACES_KEPT) }
+    requires { event.now.line < length outboxes.old.items }
+    ensures looks { LooksIf (is_up event.now.what) event.now.line outboxes.old.items outboxes.new.items }
+    ensures room { is_up event.now.what ≡ true → result ≡ true → PLACES_KEPT ≤ (outbox_at outboxes.new.items event.now.line).free }
+    ensures none { result ≡ false → (is_up event.now.what ≡ true) × ((outbox_at outboxes.new.items event.now.line).free < PLACES_KEPT) }
 {
-    if !comes_up {
+    if !comes_up(&event.what) {
         return true;
     }
-    look(rt, outboxes, line) >= LEAST_PLACES
+    look(rt, outboxes, event.line) >= LEAST_PLACES
+}
+
+/// Whether an event is an Up.
+fn comes_up<A: Allocator>(what: &What<A>) -> bool
+    ensures { result ≡ is_up what.now }
+{
+    matches!(what, What::Up)
 }
 
 /// Looks at the free places of a line's outbox, and returns how many there are.

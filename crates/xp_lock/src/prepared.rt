@@ -8,7 +8,7 @@ use std::alloc::{AllocError, Allocator, Global};
 use std::marker::Model;
 use xp_core::Core;
 use xp_outbox::outbox;
-use xp_seats::{HistoryLength, HistorySeat};
+use xp_seats::SeatsForProofs;
 use xp_subs::Subs;
 
 /// How many items an outbox has room for.
@@ -18,9 +18,7 @@ const CAPACITY: usize = 64;
 #[derive(Drop)]
 pub struct PreparedExchange<A: Allocator = Global> {
     pub(crate) core: Core<A>,
-    pub(crate) history_length: HistoryLength<A>,
-    pub(crate) history_seat: HistorySeat<A>,
-    pub(crate) recorder_seat: HistorySeat<A>,
+    pub(crate) seats: SeatsForProofs<A>,
     pub(crate) outboxes: Vec<OutboxPutEnd<A>, A>,
     pub(crate) ends: Vec<OutboxTakeEnd<A>, A>,
     pub(crate) taken: Vec<u64, A>,
@@ -37,11 +35,10 @@ impl<A: Allocator> Model for PreparedExchange<A> {
 
     ghost use Rattle.xp_lock.specs.steps.Outboxes.{OutboxesMatch};
     ghost use Rattle.xp_lock.specs.steps.Opening.{IsUnused};
-    ghost use Rattle.xp_seats.specs.Views.{keeping, recording};
 
-    ghost view = { λ b. record { subs = b.core.subs; history_length = b.history_length; queues = map (λ box. box.queue) b.outboxes.items } };
+    ghost view = { λ b. record { subs = b.core.subs; seats = b.seats.table; queues = map (λ box. box.queue) b.outboxes.items } };
 
-    ghost invariant = { λ b. (b.core.history ≡ []) × (b.core.given ≡ []) × (b.history_seat ≡ record { history_length = b.history_length; knows = keeping 0 [] [] }) × (b.recorder_seat ≡ record { history_length = b.history_length; knows = recording [] }) × OutboxesMatch b.core.subs [] b.outboxes.items × (map (λ end. end.queue) b.ends.items ≡ map (λ box. box.queue) b.outboxes.items) × All IsUnused b.ends.items × (b.lines ≡ line_count b.core.subs) × (line_count b.core.subs ≤ most_lines) × (length b.ends.items ≡ line_count b.core.subs) × (b.taken.items ≡ replicate (line_count b.core.subs) 0) };
+    ghost invariant = { λ b. (b.core.history ≡ []) × (b.core.given ≡ []) × (b.seats.known ≡ []) × OutboxesMatch b.core.subs [] b.outboxes.items × (map (λ end. end.queue) b.ends.items ≡ map (λ box. box.queue) b.outboxes.items) × All IsUnused b.ends.items × (b.lines ≡ line_count b.core.subs) × (line_count b.core.subs ≤ most_lines) × (length b.ends.items ≡ line_count b.core.subs) × (b.taken.items ≡ replicate (line_count b.core.subs) 0) };
 }
 
 /// Makes the parts of an exchange of these subscriptions: an exchange with an empty history, and an empty outbox with 64
@@ -54,15 +51,13 @@ pub fn prepare<A: Allocator + Copy>(alloc: A, subs: Subs) -> Result<PreparedExch
     ensures { IfOk result (λ prepared. prepared.subs ≡ subs) }
 {
     let lines = subs.counts().lines;
-    let (history_length, history_seat, recorder_seat) = HistoryLength::new(alloc)?;
+    let seats = SeatsForProofs::new(alloc)?;
     let (outboxes, ends) = new_outboxes(alloc, lines)?;
     let taken = vec![in alloc; 0; lines]?;
     let core = Core::new(alloc, subs)?;
     Ok(PreparedExchange {
         core,
-        history_length,
-        history_seat,
-        recorder_seat,
+        seats,
         outboxes,
         ends,
         taken,

@@ -173,10 +173,11 @@ pub fn take_records<N: Name, A: Allocator + Copy>(
     recorder: &mut Recorder<N, A>,
     log: &mut Log,
 ) -> Result<(), AllocError> {
-    if let Ok(records) = exchange.take_records(rt, recorder) {
+    let taken = exchange.lock(rt).take_records(recorder);
+    if let Ok(records) = taken {
         return log.note_records(&records);
     }
     log.takes_again = log.takes_again.saturating_add(1);
-    let records = exchange.take_records(rt, recorder)?;
+    let records = exchange.lock(rt).take_records(recorder)?;
     log.note_records(&records)
 }

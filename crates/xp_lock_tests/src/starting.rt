@@ -52,7 +52,7 @@ pub fn scene<N: Name, A: Allocator + Copy>(
     log: Log,
 ) -> Result<Log, AllocError>
     requires subs { N.subs ≡ prepared.subs }
-    requires history_length { N.history_length ≡ prepared.history_length }
+    requires seats { N.seats ≡ prepared.seats }
     requires queues { N.queues ≡ prepared.queues }
 {
     let mut log = log;

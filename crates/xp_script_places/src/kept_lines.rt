@@ -1,7 +1,7 @@
 ghost use Rattle.std.specs.Prelude.{◌≡◌};
 
 use crate::kept_script::{KeptScript, LINE_FEED};
-use memchr::memrchr;
+use memchr::{memchr, memrchr};
 use std::alloc::{AllocError, Global};
 use std::io;
 use std::io::Read;
@@ -87,13 +87,20 @@ impl<R> KeptLines<R> {
 /// Adds those of these lines that bring subscriptions into force, and counts all of them. Returns whether memory was found.
 fn keep_brought(brought: &mut Vec<u8>, lines: &[u8], count: &mut u64) -> bool {
     let mut is_kept = true;
-    for line in lines.split(|octet| *octet == LINE_FEED) {
-        if line.starts_with(TABLES) {
-            is_kept = is_kept && push_line(brought, line).is_ok();
-        }
+    let mut rest = lines;
+    while let Some(end) = memchr(LINE_FEED, rest) {
+        let (line, behind) = rest.split_at(end);
+        is_kept = is_kept && keep_if_brought(brought, line);
         *count = count.saturating_add(1);
+        rest = &behind[1..];
     }
-    is_kept
+    *count = count.saturating_add(1);
+    is_kept && keep_if_brought(brought, rest)
+}
+
+/// Adds a line, if it brings subscriptions into force. Returns whether memory was found.
+fn keep_if_brought(brought: &mut Vec<u8>, line: &[u8]) -> bool {
+    !line.starts_with(TABLES) || push_line(brought, line).is_ok()
 }
 
 /// Adds a line.

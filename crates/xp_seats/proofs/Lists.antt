@@ -1,12 +1,11 @@
 -- Lists of views, and of what a line handed in.
-use Rattle.std.proofs.Common.{◌≡◌, ◌≢◌, ℕ, zero, suc, List, [], ◌∷◌, ◌++◌, length, set, sym, refl, ap, ◌∙◌, subst, inl, inr, ◌⊎◌, ⊎_elim, append-nil, append_assoc}
+use Rattle.std.proofs.Common.{◌≡◌, ◌≢◌, ℕ, zero, suc, List, [], ◌∷◌, ◌++◌, length, set, sym, refl, ap, subst, inl, inr, ◌⊎◌, ⊎_elim}
 use Rattle.std.proofs.lemmas.List.Elements.{filter-append}
 use mathlib.Core.Option.{some, some-injective, some-ne-none}
 use lib.ListN.{get_elem?}
 use Rattle.atomic_table.proofs.Lists.{at_set}
 use Rattle.xp_step.specs.declared.entry.Entry.{Entry}
 use Rattle.xp_seats.specs.Handed.{handed, is_from}
-use Rattle.xp_seats.specs.Views.{StartsWith}
 
 module _ {X : Type 0} where
   pub at_new : (l : List X) (a b : X) (j : ℕ) → get_elem? (l ++ a ∷ []) j ≡ some b → (get_elem? l j ≡ some b) ⊎ ((j ≡ length l) × (a ≡ b))
@@ -32,16 +31,3 @@ module _ {X : Type 0} where
 module _ {A : Type 0} where
   pub handed-append : (line : ℕ) (xs ys : List (Entry A)) → handed line (xs ++ ys) ≡ handed line xs ++ handed line ys
   handed-append line xs ys = filter-append (is_from line) xs ys
-
-  -- entries of which none is of this line
-  pub handed-none : (line : ℕ) (xs ys : List (Entry A)) → handed line ys ≡ [] → handed line (xs ++ ys) ≡ handed line xs
-  handed-none line xs ys none = handed-append line xs ys ∙ ap (λ zs. handed line xs ++ zs) none ∙ append-nil (handed line xs)
-
-  pub starts_longer : (history front more : List (Entry A)) → StartsWith history front → StartsWith (history ++ more) front
-  starts_longer history front more h = (h.0 ++ more, ap (λ xs. xs ++ more) h.1 ∙ append_assoc front h.0 more)
-
-  pub starts_whole : (one other : List (Entry A)) → one ≡ other → StartsWith one other
-  starts_whole one other same = ([], same ∙ sym (append-nil other))
-
-  pub starts_empty : (history : List (Entry A)) → StartsWith history []
-  starts_empty history = (history, refl)

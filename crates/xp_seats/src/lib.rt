@@ -1,11 +1,11 @@
-//! The length of an exchange's history, in one word beside the lock, the seats that know the history, and the name that ties
-//! passes and the recorder to one exchange.
+//! Who has seen how much of an exchange's history, for proofs alone; the recorder; and the name that ties passes and the recorder to
+//! one exchange.
 #![tactic(auto)]
 
-mod history_length;
 mod name;
 mod recorder;
+mod seats_for_proofs;
 
-pub use history_length::{HistoryLength, HistorySeat};
 pub use name::Name;
 pub use recorder::Recorder;
+pub use seats_for_proofs::{HistorySeat, SeatsForProofs};

@@ -2,8 +2,8 @@
 
 use std::marker::Brand;
 
-/// Names one exchange by its subscriptions, the history length beside its lock, and the queues of its outboxes. The exchange,
-/// what its lock protects and its passes have one name, so no pass of another exchange can be passed in.
+/// Names one exchange by its subscriptions, the table of its seats, and the queues of its outboxes. The exchange, what its lock
+/// protects and its passes have one name, so no pass of another exchange can be passed in.
 pub trait Name {
     ghost use Rattle.std.specs.Prelude.{List};
     ghost use Rattle.atomic_table.specs.Seated.{TableId};
@@ -11,7 +11,7 @@ pub trait Name {
 
     ghost subs: { Tables };
 
-    ghost history_length: { TableId };
+    ghost seats: { TableId };
 
     ghost queues: { List TableId };
 }
@@ -23,7 +23,7 @@ impl Name for Brand {
 
     ghost subs = { no_tables };
 
-    ghost history_length = { no_table };
+    ghost seats = { no_table };
 
     ghost queues = { [] };
 }

@@ -1,23 +1,26 @@
 //! The recorder: the one that takes the charging records of an exchange as calls end.
 
-ghost use Rattle.std.specs.Prelude.{◌≡◌, [], ◌++◌, length};
+ghost use Rattle.std.specs.Prelude.{◌≡◌, [], ◌++◌, All, List, None, Some, length, slice_set};
+ghost use Rattle.xp_charge.specs.Lines.{HasLines as NamesLines};
 ghost use Rattle.xp_core.specs.Records.{records_of};
-ghost use Rattle.xp_seats.specs.Views.{StartsWith, keeping, recording};
+ghost use Rattle.xp_seats.specs.Recording.{Receives};
+ghost use Rattle.xp_seats.specs.Views.{StartsWith, seen_by};
+ghost use Rattle.xp_step.specs.declared.entry.Entry.{Entry};
+ghost use Rattle.xp_subs.specs.Tables.{line_count};
 
-use crate::history_length::{HistoryLength, HistorySeat};
 use crate::name::Name;
+use crate::seats_for_proofs::{HistorySeat, SeatsForProofs};
 use std::alloc::{Allocator, Global};
 use std::marker::{Model, PhantomData};
 use xp_charge::Record;
 use xp_core::Core;
 use xp_past::Past;
 
-/// The recorder of an exchange, which takes its charging records as calls end. An exchange has one, which is made as it starts,
-/// of the one recorder's seat on its history length. It knows the history as it was when it last took records, and which
-/// records it took.
+/// The recorder of an exchange, which takes its charging records as calls end. An exchange has one, which is made as it starts, of the
+/// seat behind those of the lines. It knows the history as it was when it last took records, and which records it took.
 #[derive(Drop)]
 pub struct Recorder<N: Name, A: Allocator = Global> {
-    history_seat: HistorySeat<A>,
+    seat: HistorySeat<A>,
     received: Past<Record>,
     /// How many records it took.
     count: u64,
@@ -28,25 +31,23 @@ impl<N: Name, A: Allocator> Model for Recorder<N, A> {
     ghost use Rattle.std.specs.Prelude.{◌≡◌, length};
     ghost use Rattle.xp_core.specs.Records.{records_of};
     ghost use Rattle.xp_seats.specs.Recording.{Recording};
+    ghost use Rattle.xp_subs.specs.Tables.{line_count};
 
     ghost Value = { Recording A };
 
-    ghost use Rattle.xp_seats.specs.Views.{recording};
+    ghost view = { λ r. record { seen = r.seat.seen; received = r.received.items } };
 
-    ghost view = { λ r. record { seen = r.history_seat.knows.read; received = r.received.items } };
-
-    ghost invariant = { λ r. (r.history_seat.history_length ≡ N.history_length) × (r.history_seat.knows ≡ recording r.history_seat.knows.read) × (r.received.items ≡ records_of r.history_seat.knows.read) × (r.count ≡ length r.received.items) };
+    ghost invariant = { λ r. (r.seat.table ≡ N.seats) × (r.seat.holder ≡ line_count N.subs) × (r.received.items ≡ records_of r.seat.seen) × (r.count ≡ length r.received.items) };
 }
 
 impl<N: Name, A: Allocator> Recorder<N, A> {
     /// The recorder with this seat. It has seen and taken nothing yet.
-    pub fn new(history_seat: HistorySeat<A>) -> Recorder<N, A>
-        requires history_length { history_seat.history_length ≡ N.history_length }
-        requires knows { history_seat.knows ≡ recording [] }
+    pub fn new(seat: HistorySeat<A>) -> Recorder<N, A>
+        requires { seat ≡ record { table = N.seats; holder = line_count N.subs; seen = [] } }
         ensures { result ≡ record { seen = []; received = [] } }
     {
         Recorder {
-            history_seat,
+            seat,
             received: Past::new(),
             count: 0,
             name: PhantomData,
@@ -64,43 +65,35 @@ impl<N: Name, A: Allocator> Recorder<N, A> {
 
     /// Lets the recorder see the whole history, and receive these records: those of the calls that ended since it last took
     /// records, in the order in which they ended.
-    pub fn receive(
-        &mut self,
-        history_length: &HistoryLength<A>,
-        keeper: &mut HistorySeat<A>,
-        core: &Core<A>,
-        records: &[Record],
-    )
-        requires history_length { (history_length.now ≡ N.history_length) × (keeper.old.history_length ≡ N.history_length) }
-        requires keeper { keeper.old.knows ≡ keeping keeper.old.knows.next keeper.old.knows.all keeper.old.knows.recorded }
-        requires history { core.now.history ≡ keeper.old.knows.all }
-        requires records { records_of keeper.old.knows.recorded ++ records.now ≡ records_of keeper.old.knows.all }
-        ensures keeper { keeper.new ≡ record keeper.old { knows = keeping keeper.old.knows.next keeper.old.knows.all keeper.old.knows.all } }
-        ensures recorder { self.new ≡ record { seen = keeper.old.knows.all; received = self.old.received ++ records.now } }
-        ensures each { self.new.received ≡ records_of self.new.seen }
-        ensures same { self.old.seen ≡ keeper.old.knows.recorded }
-        ensures seen { StartsWith self.new.seen self.old.seen }
+    pub fn receive(&mut self, seats: &mut SeatsForProofs<A>, core: &Core<A>, records: &[Record])
+        requires seats { seats.old.table ≡ N.seats }
+        requires subs { core.now.subs ≡ N.subs }
+        requires since { (seen : List (Entry A)) → seen_by seats.old.known (line_count N.subs) ≡ Some seen → StartsWith core.now.history seen × (records_of seen ++ records.now ≡ records_of core.now.history) }
+        requires lines { All (NamesLines (line_count N.subs)) records.now }
+        ensures seats { seats.new ≡ record seats.old { known = slice_set seats.old.known (line_count N.subs) (Some core.now.history) } }
+        ensures shown { self.new.seen ≡ core.now.history }
+        ensures receives { Receives N.subs self.old records.now self.new }
     {
-        history_length.refresh_recorder(keeper, &mut self.history_seat);
+        let _legal = core.count();
+        let _records = core.records();
+        seats.show(&mut self.seat, core);
         self.received.extend(records);
         self.count = core.record_count();
     }
 
-    /// Compares what the recorder saw and received with the history.
-    pub fn compare(self, history_length: &HistoryLength<A>, keeper: &mut HistorySeat<A>)
-        requires history_length { (history_length.now ≡ N.history_length) × (keeper.old.history_length ≡ N.history_length) }
-        requires keeper { keeper.old.knows ≡ keeping keeper.old.knows.next keeper.old.knows.all keeper.old.knows.recorded }
-        ensures keeper { keeper.new ≡ record keeper.old { knows = keeping keeper.old.knows.next keeper.old.knows.all keeper.old.knows.all } }
-        ensures seen { StartsWith keeper.old.knows.all self.seen }
-        ensures received { self.received ≡ records_of keeper.old.knows.recorded }
+    /// Gives the recorder's seat back. The keeper knew what the recorder saw, and it received the records of that.
+    pub fn give_back(self, seats: &mut SeatsForProofs<A>)
+        requires { seats.old.table ≡ N.seats }
+        ensures seats { seats.new ≡ record seats.old { known = slice_set seats.old.known (line_count N.subs) None } }
+        ensures agree { seen_by seats.old.known (line_count N.subs) ≡ Some self.seen }
+        ensures received { self.received ≡ records_of self.seen }
     {
         let Recorder {
-            history_seat,
+            seat,
             received: _,
             count: _,
             name: _,
         } = self;
-        let mut history_seat = history_seat;
-        history_length.refresh_recorder(keeper, &mut history_seat);
+        seats.take_back(seat);
     }
 }

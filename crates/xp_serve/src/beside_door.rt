@@ -13,7 +13,7 @@ use std::thread;
 use std::thread::{JoinHandle, Scope, Threads};
 use xp_limits::Limits;
 use xp_lines::{EndReason, LineInputs, LinesServed, ServeFault, serve_all};
-use xp_links::{Clock, Gate, Link, Poller, Port};
+use xp_links::{Clock, Link, Poller, Port};
 use xp_lock::Exchange;
 use xp_seats::{Name, Recorder};
 use xp_sink::RecordSink;
@@ -28,7 +28,6 @@ pub(crate) fn serve_with_door<
     N: Name + Send + Sync,
     P: Port + Send,
     C: Clock + Send,
-    G: Gate + Send,
     T: Poller + Send,
     R: Net<Listener = TcpListener, Stream = TcpStream> + Threads + Wait + Sync,
     S: RecordSink,
@@ -36,13 +35,13 @@ pub(crate) fn serve_with_door<
     rt: &R,
     alloc: Global,
     exchange: &Exchange<N>,
-    lines: Vec<LineInputs<N, P, C, G>>,
+    lines: Vec<LineInputs<N, P, C>>,
     pollers: Vec<T>,
     door: Option<Door>,
     recorder: Recorder<N>,
     sink: S,
     limits: Limits,
-) -> Result<LinesServed<N, S>, ServeFault<N, P, C, G, S>>
+) -> Result<LinesServed<N, S>, ServeFault<N, P, C, S>>
     requires lines { S.lines sink ≡ line_count N.subs }
     requires tables { S.tables sink ≡ N.subs }
     requires received { S.received sink ≡ recorder.received }
@@ -67,7 +66,7 @@ pub(crate) fn serve_with_door<
     thread::scope(
         thread::scope_env(),
         rt,
-        |scope| -> Result<LinesServed<N, S>, ServeFault<N, P, C, G, S>>
+        |scope| -> Result<LinesServed<N, S>, ServeFault<N, P, C, S>>
             requires lines { S.lines sink ≡ line_count N.subs }
             requires tables { S.tables sink ≡ N.subs }
             requires received { S.received sink ≡ recorder.received }

@@ -28,7 +28,7 @@ use xp_lock::{Exchange, LinePass, PreparedExchange, prepare};
 use xp_seats::{Name, Recorder};
 use xp_sink::RecordSink;
 use xp_subs::Subs;
-use xp_tcp::{Door, Ends, LinePlaces, LinePort, OpenGate, Sockets, TcpClock, TcpPoller};
+use xp_tcp::{Door, Ends, LinePlaces, LinePort, Sockets, TcpClock, TcpPoller};
 
 /// How many lines are few enough for one thread.
 const LINES_OF_A_THREAD: usize = 8;
@@ -195,7 +195,7 @@ fn serve_named<
     sink: S,
 ) -> Result<Recorded<S>, NotServed<S>>
     requires subs { N.subs ≡ prepared.subs }
-    requires history_length { N.history_length ≡ prepared.history_length }
+    requires seats { N.seats ≡ prepared.seats }
     requires queues { N.queues ≡ prepared.queues }
     requires sockets { length sockets ≡ line_count prepared.subs }
     requires few { line_count prepared.subs ≤ most_lines }
@@ -286,7 +286,7 @@ fn make_ready<N: Name>(
     sockets: Sockets,
 ) -> Result<Ready<N>, AllocError>
     requires subs { N.subs ≡ prepared.subs }
-    requires history_length { N.history_length ≡ prepared.history_length }
+    requires seats { N.seats ≡ prepared.seats }
     requires queues { N.queues ≡ prepared.queues }
     requires sockets { length sockets ≡ line_count prepared.subs }
     ensures { IfOk result (AreReady N.subs) }
@@ -311,7 +311,7 @@ fn make_ready<N: Name>(
 }
 
 /// What a line is served with over TCP.
-pub type TcpLine<N> = LineInputs<N, LinePort, TcpClock, OpenGate>;
+pub type TcpLine<N> = LineInputs<N, LinePort, TcpClock>;
 
 /// What the threads of all lines are given, and the door of the lines behind routers, if there are any.
 #[derive(Drop)]
@@ -348,12 +348,7 @@ pub fn thread_inputs<N: Name>(
         let Some((port, clock)) = ends.next() else {
             unreachable!()
         };
-        served.push(LineInputs {
-            pass,
-            port,
-            clock,
-            gate: OpenGate,
-        })?;
+        served.push(LineInputs { pass, port, clock })?;
     }
     Ok(TcpThreads {
         lines: served,

@@ -25,7 +25,7 @@ pub struct Line {
     pub wrong: AtomicBool,
     /// Whether its link met a fault.
     pub failed: AtomicBool,
-    /// How often its clock let time pass, it was woken, its thread paused as its lines ended, and its gate was asked.
+    /// How often its clock let time pass, it was woken, its thread paused as its lines ended, and its link had a packet to give.
     pub idles: AtomicU64,
     pub wakes: AtomicU64,
     pub pauses: AtomicU64,
@@ -122,7 +122,7 @@ pub struct Board {
     pub read: u64,
     pub step: u64,
     pub pause: u64,
-    /// Whether one thread serves all lines. Their gates must not wait for one another then.
+    /// Whether one thread serves all lines. Their links must not wait for one another then.
     pub together: bool,
     /// The number of the pull or push that meets a fault, from 0.
     pub at: u64,
@@ -131,7 +131,7 @@ pub struct Board {
     spare: Line,
     /// How many charging records were handed to the sink.
     pub recorded: AtomicU64,
-    /// Whether a gate waited for another one in vain.
+    /// Whether a link waited for another one in vain.
     pub late: AtomicBool,
 }
 
@@ -171,8 +171,20 @@ impl Board {
         number(&self.words, key, otherwise)
     }
 
-    /// Waits until the gates of all these lines were asked.
-    pub fn meet(&self, lines: &str) {
+    /// Whether the link of this line, which has a packet to give, gives it now. With its first packet it waits for the links that it
+    /// is to meet.
+    pub fn lets(&self, line: &Line) -> bool {
+        let words = line.plan.words.as_str();
+        if line.asks.fetch_add(1, Ordering::SeqCst) == 0 {
+            self.meet(setting(words, "meets=").unwrap_or(""));
+        }
+        self.are_pulled(setting(words, "pulled=").unwrap_or(""))
+            && self.of(2).got() as u64 >= number(words, "h1-took=", 0)
+            && self.recorded.load(Ordering::SeqCst) >= number(words, "recorded=", 0)
+    }
+
+    /// Waits until the links of all these lines had a packet to give.
+    fn meet(&self, lines: &str) {
         for digit in lines.as_bytes() {
             if !comes(&self.named(*digit).asks, 1) {
                 self.late.store(true, Ordering::SeqCst);
@@ -181,7 +193,7 @@ impl Board {
     }
 
     /// Whether all these lines were pulled from.
-    pub fn are_pulled(&self, lines: &str) -> bool {
+    fn are_pulled(&self, lines: &str) -> bool {
         for digit in lines.as_bytes() {
             if self.named(*digit).pulls.load(Ordering::SeqCst) == 0 {
                 return false;

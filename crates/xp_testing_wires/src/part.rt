@@ -1,4 +1,4 @@
-//! Parts of a line: its link and the port that it comes from, its clock and its gate; and what its thread does between the turns.
+//! Parts of a line: its link and the port that it comes from, its clock; and what its thread does between the turns.
 
 ghost use Rattle.std.specs.Prelude.{◌≤◌, length};
 ghost use Rattle.xp_links.specs.Counts.{pulled_count};
@@ -8,9 +8,8 @@ use std::alloc::AllocError;
 use std::sync::Arc;
 use std::sync::atomic::Ordering;
 use std::thread;
-use xp_links::{Arrived, Clock, Gate, Link, Patience, Poller, Port, Pulled, Pushed};
+use xp_links::{Arrived, Clock, Link, Patience, Poller, Port, Pulled, Pushed};
 use xp_subs::LineNo;
-use xp_testing::{number, setting};
 
 /// A part of a line, which does what the line's plan tells.
 #[derive(Drop)]
@@ -69,7 +68,7 @@ impl Link for Part {
             }
             return Pulled::Nothing;
         };
-        if line.got() < piece.after {
+        if line.got() < piece.after || !self.board.lets(line) {
             return Pulled::Nothing;
         }
         self.count = self.count.saturating_add(1);
@@ -129,20 +128,6 @@ impl Clock for Part {
 
     fn wake(&mut self, line: LineNo) {
         self.board.of(line).wakes.fetch_add(1, Ordering::SeqCst);
-    }
-}
-
-impl Gate for Part {
-    fn may_go(&mut self, line: LineNo) -> bool {
-        let board = &self.board;
-        let this = board.of(line);
-        let words = this.plan.words.as_str();
-        if this.asks.fetch_add(1, Ordering::SeqCst) == 0 {
-            board.meet(setting(words, "meets=").unwrap_or(""));
-        }
-        board.are_pulled(setting(words, "pulled=").unwrap_or(""))
-            && board.of(2).got() as u64 >= number(words, "h1-took=", 0)
-            && board.recorded.load(Ordering::SeqCst) >= number(words, "recorded=", 0)
     }
 }
 

@@ -1,5 +1,5 @@
 -- What private functions promise: cutting frames, acting on events and writing the text of an entry.
-use Rattle.std.specs.Prelude.{◌≡◌, ℕ, ◌+◌, ◌<◌, Bool, true, false, List, [], ◌++◌, length, take, Option, Result, Ok, Err}
+use Rattle.std.specs.Prelude.{◌≡◌, ℕ, ◌+◌, ◌<◌, Bool, true, false, List, [], ◌++◌, length, take, All, Option, None, Some, Result, Ok, Err}
 use Rattle.std.specs.Io.KnownBytes.{Appends}
 use Rattle.xp_frames.specs.declared.fault.FrameFault.{FrameFault}
 use Rattle.xp_frames.specs.Frame.{BadHeader, HasNoBadHeader}
@@ -12,7 +12,9 @@ use Rattle.xp_exchange.specs.declared.fault.ReplayFault.{ReplayFault}
 use Rattle.xp_exchange.specs.declared.fault.ReplayFault.TheVariants.{Script, Journal, Memory, Read, Write, Lay, Reload}
 use Rattle.xp_script.specs.NamedText.{NamedText}
 use Rattle.xp_subs.specs.Tables.{Tables}
+use Rattle.xp_exchange.specs.declared.next_tables.AskedTables.{AskedTables}
 use Rattle.xp_exchange.specs.declared.next_tables.NextTables.{NextTables}
+use Rattle.xp_exchange.specs.FrameEvents.{Fits}
 use Rattle.xp_exchange.specs.Play.{ActsOn, HasNoPlaces, IsRefusedText, Lays, MayCome, stalls_at}
 use Rattle.xp_exchange.specs.WholeScript.{IsWritten, IsWrittenInPart, FindsNoMemory}
 
@@ -72,6 +74,17 @@ module _ {A : Type 0} where
   RefusesReload exchange named tables number (Script found) = ⊥
   RefusesReload exchange named tables number Read = ⊥
   RefusesReload exchange named tables number Write = ⊥
+
+  -- what a line that was read asks for is there, if it asks for anything; else its events are as they were
+  abbrev pub IsPrepared : Exchange A → List NamedText → Option AskedTables → ℕ → List (Event A) → List (Event A) → Option NextTables → Type 0
+  IsPrepared exchange named None moment before events next = events ≡ before
+  IsPrepared exchange named (Some asked) moment before events next =
+      (one : NextTables) × (next ≡ Some one) × IsNext exchange named asked.tables moment events one × All (Fits exchange.subs) events
+
+  -- why it is not there
+  abbrev pub RefusesAsked : Exchange A → List NamedText → Option AskedTables → ReplayFault → Type 0
+  RefusesAsked exchange named None fault = ⊥
+  RefusesAsked exchange named (Some asked) fault = RefusesReload exchange named asked.tables asked.line fault
 
   -- The first of the events are acted on. They may be none, and they may be all.
   pub record ActsOnFirst (old : Exchange A) (events : List (Event A)) (now : Exchange A) : Type 0 where

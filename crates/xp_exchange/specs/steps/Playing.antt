@@ -1,11 +1,14 @@
 -- What playing one line promises.
-use Rattle.std.specs.Prelude.{◌≡◌, ◌⊎◌, ℕ, ◌+◌, ◌<◌, List, length, None, Result, Ok, Err}
+use Rattle.std.specs.Prelude.{◌≡◌, ◌⊎◌, ℕ, ◌+◌, ◌<◌, List, length, All, Option, None, Some, Result, Ok, Err}
 use Rattle.xp_script.specs.Command.{said}
+use Rattle.xp_step.specs.declared.event.Event.{Event}
+use Rattle.xp_exchange.specs.FrameEvents.{Fits}
 use Rattle.xp_script.specs.NamedText.{NamedText}
 use Rattle.xp_subs.specs.Tables.{Tables}
+use Rattle.xp_exchange.specs.declared.next_tables.AskedTables.{AskedTables}
 use Rattle.xp_exchange.specs.declared.fault.ReplayFault.{ReplayFault}
 use Rattle.xp_exchange.specs.declared.fault.ReplayFault.TheVariants.{Script, Journal, Memory, Read, Write, Lay, Reload}
-use Rattle.xp_exchange.specs.Play.{AsksFor, BeginsLine, HasNoPlaces, IsRefusedText, LacksPlaces, PlayState, PlaysLine, force_in}
+use Rattle.xp_exchange.specs.Play.{AsksFor, BeginsLine, HasNoPlaces, IsRefusedText, LacksPlaces, PlayState, PlaysLine, ReadsLine, force_in}
 use Rattle.xp_exchange.specs.WholeScript.{IsWritten, IsWrittenInPart, FindsNoMemory, StopsBeforeLine}
 
 -- why the line of this number asks for nothing
@@ -19,6 +22,12 @@ RefusesCommand A tables named number line (Lay found which) = ⊥
 RefusesCommand A tables named number line (Reload found which fault) = ⊥
 
 module _ {A : Type 0} where
+  -- what comes of reading the line of this number: events on which the exchange can act, or what it asks for
+  abbrev pub IsRead : PlayState A → ℕ → List ℕ → List (Event A) → PlayState A → Option AskedTables → Type 0
+  IsRead old number line events new None = ReadsLine old line events new × All (Fits old.exchange.subs) events
+  IsRead old number line events new (Some asked) =
+      AsksFor old line asked.tables × (asked.tables < length old.named) × (asked.line ≡ number) × (new ≡ old)
+
   -- what playing the line of this number returns, the state then, and what is written
   abbrev pub Played : PlayState A → ℕ → List ℕ → Result (Unit {0}) ReplayFault → PlayState A → List ℕ → Type 0
   Played old number line (Ok done) new text = PlaysLine old line new × IsWritten old.exchange new.exchange text

@@ -12,7 +12,6 @@ use Rattle.xp_lines.specs.declared.line.EndReason.TheVariants as reasons
 use Rattle.xp_lines.specs.declared.line.LineEnd.{LineEnd}
 use Rattle.xp_lines.specs.declared.line_state.LineState.{LineState}
 use Rattle.xp_lines.specs.declared.line_state.LineState.TheVariants as states
-use Rattle.xp_lines.specs.declared.line_state.Unwritten.{Unwritten}
 use Rattle.xp_lines.specs.declared.session.Session.{Session}
 use Rattle.xp_lines.specs.Wire.{Writes, WritesRest}
 
@@ -22,16 +21,16 @@ first_of [] = record { line = 0; seen = []; taken = [] }
 first_of (pass ∷ more) = pass
 
 -- what is still to be written on a link, and these octets were pushed into it
-abbrev pub IsLeft : {L : Type 0} → (L → Option (List ℕ)) → Unwritten L → List ℕ → Option (List ℕ) → List ℕ → Option (Unwritten L) → Type 0
+abbrev pub IsLeft : {L : Type 0} → (L → Option (List ℕ)) → Session L Alloc → List ℕ → Option (List ℕ) → List ℕ → Option (Session L Alloc) → Type 0
 IsLeft into rest left pushed lost None = Unit {0}
-IsLeft into rest left pushed lost (Some more) = (more.connection ≡ rest.connection) × (more.octets.items ≡ left) × (into more.link ≡ pushed) × (lost ≡ [])
+IsLeft into rest left pushed lost (Some more) = (more.connection ≡ rest.connection) × (more.unwritten.items ≡ left) × (into more.link ≡ pushed) × (lost ≡ [])
 
 -- More of what waits for a link is written. Where something is left, nothing was lost.
-pub record WritesOn {L : Type 0} (modulus : Modulus) (into : L → Option (List ℕ)) (rest : Unwritten L) (old : Pass Alloc) (result : Option (Unwritten L)) (new : Pass Alloc) : Type 0 where
+pub record WritesOn {L : Type 0} (modulus : Modulus) (into : L → Option (List ℕ)) (rest : Session L Alloc) (old : Pass Alloc) (result : Option (Session L Alloc)) (new : Pass Alloc) : Type 0 where
   pub link : L
   pub left : List ℕ
   pub lost : List ℕ
-  pub writes : Writes modulus rest.connection old rest.octets.items (into rest.link) new left (into link) lost
+  pub writes : Writes modulus rest.connection old rest.unwritten.items (into rest.link) new left (into link) lost
   pub is_left : IsLeft into rest left (into link) lost result
 
 module _ (subs : Tables) (of_link : Option (List ℕ) → Option (List ℕ) → Type 0) where
@@ -45,14 +44,14 @@ module _ (subs : Tables) (of_link : Option (List ℕ) → Option (List ℕ) → 
 
 module _ {L : Type 0} (subs : Tables) (pushed pulled : L → Option (List ℕ)) where
   -- The line was stopped: its last link went, and since then this is what the link got, and what is still to be written.
-  pub record StopsWith (first : Pass Alloc) (rest : Unwritten L) (pass : Pass Alloc) : Type 0 where
+  pub record StopsWith (first : Pass Alloc) (rest : Session L Alloc) (pass : Pass Alloc) : Type 0 where
     pub sessions : List (PastSession Alloc)
     pub session : PastSession Alloc
     pub are : AreSessions subs (AreMoved pushed pulled) first (sessions ++ session ∷ []) session.gone
     pub gone : AllByRecursion IsGone (sessions ++ session ∷ [])
     pub line : session.gone.line ≡ first.line
     pub connection : rest.connection ≡ session.connection
-    pub writes : WritesRest (modulus_of subs session.gone.line) session.connection session.gone (left_at_last session).seen.unwritten (left_at_last session).seen.pushed pass rest.octets.items (pushed rest.link) []
+    pub writes : WritesRest (modulus_of subs session.gone.line) session.connection session.gone (left_at_last session).seen.unwritten (left_at_last session).seen.pushed pass rest.unwritten.items (pushed rest.link) []
 
   -- what the line has gained since it had its first pass
   abbrev pub IsLineSo : Pass Alloc → LineState L → Pass Alloc → Type 0

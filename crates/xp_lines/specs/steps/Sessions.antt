@@ -7,33 +7,16 @@ use Rattle.xp_lock.specs.Passes.{Pass}
 use Rattle.xp_lines.specs.Offers.{Gains}
 use Rattle.xp_lines.specs.Sessions.{ComesUp, Drops, IsSession, PastSession, left_at_last}
 use Rattle.xp_lines.specs.Together.{AreTurns, IsFresh, Left, last_of}
-use Rattle.xp_lines.specs.Turns.{IsTurn, Seen}
+use Rattle.xp_lines.specs.Turns.{Here, IsTurn, Seen, seen_on}
 use Rattle.xp_lines.specs.declared.line.EndReason.{EndReason}
 use Rattle.xp_lines.specs.declared.line.EndReason.TheVariants.{Stopped}
 use Rattle.xp_lines.specs.declared.session.Session.{Session}
 use Rattle.xp_lines.specs.declared.turning.TurnOutcome.{TurnOutcome}
 use Rattle.xp_lines.specs.declared.turning.TurnOutcome.TheVariants.{Linked, Dropped, DownOwed, Halted, Journal}
 
--- the number of a connection, and what the line sees on its link
-abbrev pub Here : Type 0 → Type 0
-Here A = ℕ × Seen A
-
 module _ {A L : Type 0} where
-  abbrev pub seen_on : (L → Option (List ℕ)) → (L → Option (List ℕ)) → Session L A → Here A
-  seen_on pushed pulled session = (
-    session.connection,
-    record {
-      held = session.waiting;
-      frames = session.frames;
-      unwritten = session.unwritten.items;
-      pushed = pushed session.link;
-      pulled = pulled session.link;
-      unanswered_since = session.unanswered_since;
-    },
-  )
-
   -- what the line sees, if it has a link
-  abbrev pub here : (L → Option (List ℕ)) → (L → Option (List ℕ)) → Option (Session L A) → Option (Here A)
+  abbrev pub here : (L → Option (List ℕ)) → (L → Option (List ℕ)) → Option (Session L A) → Option Here
   here pushed pulled session = option_map (seen_on pushed pulled) session
 
 -- the link is there
@@ -52,15 +35,15 @@ GoesOn DownOwed = Unit {0}
 GoesOn Halted = ⊥
 GoesOn Journal = ⊥
 
-module _ {A : Type 0} where
-  -- the link that is left by how a turn on it ended
-  abbrev pub Leaves : TurnOutcome → Here A → Option (Here A) → Option EndReason → Type 0
-  Leaves Linked now left end = left ≡ Some now
-  Leaves DownOwed now left end = left ≡ Some now
-  Leaves Dropped now left end = left ≡ None
-  Leaves Halted now left end = (left ≡ Some now) × ((end ≡ None) → ⊥)
-  Leaves Journal now left end = (left ≡ Some now) × ((end ≡ None) → ⊥)
+-- the link that is left by how a turn on it ended
+abbrev pub Leaves : TurnOutcome → Here → Option Here → Option EndReason → Type 0
+Leaves Linked now left end = left ≡ Some now
+Leaves DownOwed now left end = left ≡ Some now
+Leaves Dropped now left end = left ≡ None
+Leaves Halted now left end = (left ≡ Some now) × ((end ≡ None) → ⊥)
+Leaves Journal now left end = (left ≡ Some now) × ((end ≡ None) → ⊥)
 
+module _ {A : Type 0} where
   -- How a link that is still there at the end goes: the exchange accepted its Down, as always where the line was stopped, or
   -- refused it. Then outputs were dropped.
   pub record GoesBy (why : EndReason) (old new : Pass A) : Type 0 where
@@ -70,7 +53,7 @@ module _ {A : Type 0} where
     pub drops : Drops gone new
 
   -- the link that is still there at the end goes
-  abbrev pub Closes : Option (Here A) → EndReason → Pass A → Pass A → Type 0
+  abbrev pub Closes : Option Here → EndReason → Pass A → Pass A → Type 0
   Closes None why old new = new ≡ old
   Closes (Some link) why old new = GoesBy why old new
 
@@ -81,9 +64,9 @@ module _ {A : Type 0} (subs : Tables) (of_link : Option (List ℕ) → Option (L
   AreOver old (session ∷ sessions) new = IsSession subs of_link old session × ((left_at_last session).after ≡ Dropped) × AreOver session.gone sessions new
 
   -- the link that is there, and its turns so far
-  pub record IsOpen (may : TurnOutcome → Type 0) (old : Pass A) (connection : ℕ) (pass : Pass A) (seen : Seen A) : Type 0 where
+  pub record IsOpen (may : TurnOutcome → Type 0) (old : Pass A) (connection : ℕ) (pass : Pass A) (seen : Seen) : Type 0 where
     pub came : Pass A
-    pub first : Seen A
+    pub first : Seen
     pub turns : List (Left A)
     pub comes : ComesUp subs old connection came
     pub fresh : IsFresh first
@@ -96,35 +79,35 @@ module _ {A : Type 0} (subs : Tables) (of_link : Option (List ℕ) → Option (L
     pub line : pass.line ≡ old.line
 
   -- no link is there, and outputs were dropped, or this link
-  abbrev pub IsHere : (TurnOutcome → Type 0) → Pass A → Option (Here A) → Pass A → Type 0
+  abbrev pub IsHere : (TurnOutcome → Type 0) → Pass A → Option Here → Pass A → Type 0
   IsHere may old None pass = Drops old pass
   IsHere may old (Some (connection, seen)) pass = IsOpen may old connection pass seen
 
   -- what the line has gained so far
-  pub record IsOn (may : TurnOutcome → Type 0) (first : Pass A) (link : Option (Here A)) (pass : Pass A) : Type 0 where
+  pub record IsOn (may : TurnOutcome → Type 0) (first : Pass A) (link : Option Here) (pass : Pass A) : Type 0 where
     pub sessions : List (PastSession A)
     pub between : Pass A
     pub over : AreOver first sessions between
     pub rest : IsHere may between link pass
 
   -- what a turn without a link leaves
-  abbrev pub Connects : Pass A → Option (Here A) → Option EndReason → Pass A → Type 0
+  abbrev pub Connects : Pass A → Option Here → Option EndReason → Pass A → Type 0
   Connects old None end new = Drops old new
   Connects old (Some (connection, seen)) end new =
       ComesUp subs old connection new × IsFresh seen × of_link seen.pushed seen.pulled × (new.line ≡ old.line) × (end ≡ None)
 
   -- a turn on a link
-  pub record TurnsOn (connection : ℕ) (old : Pass A) (seen : Seen A) (left : Option (Here A)) (end : Option EndReason) (new : Pass A) : Type 0 where
+  pub record TurnsOn (connection : ℕ) (old : Pass A) (seen : Seen) (left : Option Here) (end : Option EndReason) (new : Pass A) : Type 0 where
     pub after : TurnOutcome
     pub now : ℕ
     pub wanting : Bool
-    pub new_seen : Seen A
+    pub new_seen : Seen
     pub is_turn : IsTurn (modulus_of subs old.line) now connection old seen after wanting new new_seen
     pub moved : of_link new_seen.pushed new_seen.pulled
     pub line : new.line ≡ old.line
     pub leaves : Leaves after (connection, new_seen) left end
 
   -- a turn of a line, with a link or without one
-  abbrev pub Steps : Pass A → Option (Here A) → Option (Here A) → Option EndReason → Pass A → Type 0
+  abbrev pub Steps : Pass A → Option Here → Option Here → Option EndReason → Pass A → Type 0
   Steps old None left end new = Connects old left end new
   Steps old (Some (connection, seen)) left end new = TurnsOn connection old seen left end new

@@ -1,7 +1,7 @@
 -- For private steps. How a list of lines grows by those of some outputs.
 use Rattle.std.specs.Prelude.{ℕ, if◌then◌else◌, List, [], ◌∷◌, ◌++◌}
 use Rattle.xp_step.specs.declared.output.Output.{Output}
-use Rattle.xp_seats.specs.Among.{is_among}
+use Rattle.xp_lock.specs.Given.{is_among}
 
 -- with this line, which is added where it is not there
 abbrev pub with_line : List ℕ → ℕ → List ℕ

@@ -1,10 +1,10 @@
 -- For private steps. What a reload needs, and what the giving up of one line does.
-use Rattle.std.specs.Prelude.{◌≡◌, ℕ, ◌+◌, ◌*◌, ◌<◌, ◌≤◌, List, [], length, vec_capacity}
+use Rattle.std.specs.Prelude.{◌≡◌, ◌+◌, ◌*◌, ◌<◌, ◌≤◌, [], length, vec_capacity}
 use Rattle.xp_subs.specs.Tables.{Tables}
 use Rattle.xp_step.specs.declared.event.Event.{Event}
 use Rattle.xp_step.specs.Exchange.{Exchange}
 use Rattle.xp_core.specs.Reload.{AreGoingFrom, MayReplaceIn}
-use Rattle.xp_lock.specs.CoreWithOutboxes.{CoreWithOutboxes, Takes}
+use Rattle.xp_lock.specs.Locked.{Locked, Takes}
 use Rattle.xp_lock.specs.declared.giving_up.PreparedReload.{PreparedReload}
 use Rattle.xp_lock.specs.declared.receipt.Receipt.{Receipt}
 
@@ -19,5 +19,5 @@ module _ {A : Type 0} where
     pub room : length core.waiting + 4 * length prepared.going.items ≤ vec_capacity prepared.room
 
   -- the stall was entered, with the stalls that it forced
-  abbrev pub GivesLineUp : CoreWithOutboxes A → Event A → CoreWithOutboxes A → Type 0
+  abbrev pub GivesLineUp : Locked A → Event A → Locked A → Type 0
   GivesLineUp old event new = (done : Receipt) × Takes old event done new

@@ -10,19 +10,19 @@ use Rattle.xp_machine.specs.World.{state_at}
 use Rattle.xp_lock.specs.Outboxes.{PLACES_KEPT, outbox_at}
 use Rattle.xp_lock.specs.steps.Outboxes.{AreAlike, OutboxesMatch}
 use Rattle.xp_lock.specs.declared.receipt.Receipt.{Receipt}
-use Rattle.xp_lock.specs.CoreWithOutboxes.{HasPlaces, CoreWithOutboxes, Takes, is_up}
+use Rattle.xp_lock.specs.Locked.{HasPlaces, Locked, Takes, is_up}
 
 module _ {A : Type 0} where
   -- the core with these outboxes, not halted
-  abbrev pub with_outboxes : Exchange A → List (Putting (Outgoing A)) → CoreWithOutboxes A
+  abbrev pub with_outboxes : Exchange A → List (Putting (Outgoing A)) → Locked A
   with_outboxes core outboxes = record { subs = core.subs; history = core.history; given = core.given; waiting = core.waiting; outboxes = outboxes; halted = false }
 
   -- the event can be entered
-  pub record CanEnter (core_with_outboxes : CoreWithOutboxes A) (event : Event A) : Type 0 where
-    pub running : core_with_outboxes.halted ≡ false
-    pub kept : OutboxesMatch core_with_outboxes.subs core_with_outboxes.history core_with_outboxes.outboxes
-    pub places : HasPlaces core_with_outboxes
-    pub room : is_up event.what ≡ true → PLACES_KEPT ≤ (outbox_at core_with_outboxes.outboxes event.line).free
+  pub record CanEnter (locked : Locked A) (event : Event A) : Type 0 where
+    pub running : locked.halted ≡ false
+    pub kept : OutboxesMatch locked.subs locked.history locked.outboxes
+    pub places : HasPlaces locked
+    pub room : is_up event.what ≡ true → PLACES_KEPT ≤ (outbox_at locked.outboxes event.line).free
 
   -- The event was taken, with these outboxes, or such as knew of fewer free places before the exchange looked at them
   abbrev pub HasTaken : Exchange A → List (Putting (Outgoing A)) → Event A → Receipt → Exchange A → List (Putting (Outgoing A)) → Type 0

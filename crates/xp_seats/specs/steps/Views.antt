@@ -1,109 +1,68 @@
--- For private steps. The rule of the history length (`IsShared`), and its steps. The keeper's seat knows the whole history. The
--- claim of a line knows a front of it with all entries of the line, so no one else has added entries of the line since. A
--- claim that was compared at the end is given back, and no line has a second one to give. The recorder's seat knows the front of
--- the history that the keeper knows as recorded.
-use Rattle.std.specs.Prelude.{◌≡◌, ℕ, ◌<◌, true, false, List, [], ◌∷◌, length, slice_index}
-use mathlib.Core.Option.{Option, none, some}
+-- For private steps. The rule of the seats (`IsShared`), and its steps.
+use Rattle.std.specs.Prelude.{◌≡◌, ℕ, true, false, Option, None, Some, List, [], ◌∷◌, ◌++◌, length, slice_set}
+use mathlib.Core.Option.{Option as Maybe, none, some}
 use lib.ListN.{get_elem?}
 use Rattle.xp_step.specs.declared.entry.Entry.{Entry}
 use Rattle.xp_step.specs.Exchange.{Exchange}
-use Rattle.xp_seats.specs.declared.history_length.View.{View}
-use Rattle.xp_seats.specs.Among.{is_among}
-use Rattle.xp_seats.specs.Handed.{handed}
-use Rattle.xp_seats.specs.Views.{StartsWith, closing, claiming, recording}
+use Rattle.xp_seats.specs.declared.seats_for_proofs.View.{View}
+use Rattle.xp_seats.specs.Views.{seen_by}
 
 module _ {A : Type 0} where
+  -- the keeper, without the part of a holder
+  abbrev pub keeping : List (Option (List (Entry A))) → View A
+  keeping known = record { keeps = true; known = known; holds = false; holder = 0; seen = [] }
+
+  -- the part of a holder alone
+  abbrev pub holding : ℕ → List (Entry A) → View A
+  holding holder seen = record { keeps = false; known = []; holds = true; holder = holder; seen = seen }
+
   -- a seat that knows nothing
   abbrev pub nobody : View A
-  nobody = record { keeps = false; all = []; recorded = []; next = 0; returned = []; claims = false; line = 0; seen = []; records = false; read = [] }
+  nobody = record { keeps = false; known = []; holds = false; holder = 0; seen = [] }
 
-  -- what a seat knows without its claim
-  abbrev pub unclaimed : View A → View A
-  unclaimed view = record view { claims = false; line = 0; seen = [] }
+  -- what a seat knows without its part
+  abbrev pub without_part : View A → View A
+  without_part view = record view { holds = false; holder = 0; seen = [] }
 
-  -- the claim of a seat alone
-  abbrev pub claim_of : View A → View A
-  claim_of view = claiming view.line view.seen
+  -- the part of a seat alone
+  abbrev pub part_of : View A → View A
+  part_of view = holding view.holder view.seen
 
-  -- what a seat knows with the claim of another
-  abbrev pub joined : View A → View A → View A
-  joined view other = record view { claims = other.claims; line = other.line; seen = other.seen }
+  -- what a seat knows with the part of another
+  abbrev pub with_part : View A → View A → View A
+  with_part view other = record view { holds = other.holds; holder = other.holder; seen = other.seen }
 
-  -- what a seat knows without the recorder's part
-  abbrev pub unrecorded : View A → View A
-  unrecorded view = record view { records = false; read = [] }
+  -- the keeper after it gave out the next part
+  abbrev pub one_further : View A → View A
+  one_further view = record view { known = view.known ++ Some [] ∷ []; holds = false; holder = 0; seen = [] }
 
-  -- the recorder's part of a seat alone
-  abbrev pub recorder_of : View A → View A
-  recorder_of view = recording view.read
+  -- that part, of a holder who has seen nothing
+  abbrev pub first_part : View A → View A
+  first_part view = holding (length view.known) []
 
-  -- what a seat knows with the recorder's part of another
-  abbrev pub with_recorder : View A → View A → View A
-  with_recorder view other = record view { records = other.records; read = other.read }
+  -- what a seat knows is true: one seat is the keeper's, and the part of each holder is in one seat
+  pub record Fits (keeper : ℕ) (owner : ℕ → ℕ) (known : List (Option (List (Entry A)))) (seat : ℕ) (view : View A) : Type 0 where
+    pub keeps : view.keeps ≡ true → (seat ≡ keeper) × (view.known ≡ known)
+    pub holds : view.holds ≡ true → (owner view.holder ≡ seat) × (seen_by known view.holder ≡ Some view.seen)
 
-  -- What the claim of a line knows is true: it is the one claim of its line, and was not given back. It has seen a front of
-  -- the history, with all entries of its line
-  pub record Claims (owner : ℕ → ℕ) (next : ℕ) (history : List (Entry A)) (returned : List ℕ) (seat line : ℕ) (seen : List (Entry A)) : Type 0 where
-    pub owned : owner line ≡ seat
-    pub given : line < next
-    pub out : is_among line returned ≡ false
-    pub front : StartsWith history seen
-    pub own : handed line history ≡ handed line seen
-
-  -- what a seat knows is true
-  pub record Fits (keeper_seat recorder_seat : ℕ) (owner : ℕ → ℕ) (next : ℕ) (history recorded : List (Entry A)) (returned : List ℕ) (seat : ℕ) (view : View A) : Type 0 where
-    pub keeps : view.keeps ≡ true → (seat ≡ keeper_seat) × (view.all ≡ history) × (view.next ≡ next) × (view.returned ≡ returned) × (view.recorded ≡ recorded)
-    pub claims : view.claims ≡ true → Claims owner next history returned seat view.line view.seen
-    pub records : view.records ≡ true → (seat ≡ recorder_seat) × (view.read ≡ recorded)
-
-  -- The rule: there is at most one keeper, at most one recorder and at most one claim of each line, and the word is the length of
-  -- the history. The recorder saw a front of it
-  pub record IsShared (words : List ℕ) (views : List (View A)) : Type 0 where
-    pub keeper_seat : ℕ
-    pub recorder_seat : ℕ
+  -- so of all seats
+  pub record IsShared (views : List (View A)) : Type 0 where
+    pub keeper : ℕ
     pub owner : ℕ → ℕ
-    pub next : ℕ
-    pub history : List (Entry A)
-    pub recorded : List (Entry A)
-    pub returned : List ℕ
-    pub one : 0 < length words
-    pub history_length : slice_index words 0 ≡ length history
-    pub front : StartsWith history recorded
-    pub each : (seat : ℕ) (view : View A) → get_elem? views seat ≡ some view → Fits keeper_seat recorder_seat owner next history recorded returned seat view
+    pub known : List (Option (List (Entry A)))
+    pub each : (seat : ℕ) (view : View A) → get_elem? views seat ≡ some view → Fits keeper owner known seat view
 
-  -- the claim in this seat has seen a front of the history, with all entries of its line
-  pub record HasSeenOwn (view : View A) : Type 0 where
-    pub front : StartsWith view.all view.seen
-    pub own : handed view.line view.all ≡ handed view.line view.seen
-
-  -- the keeper, and the claim that it holds, now know this history
-  pub record IsPublished (history : List (Entry A)) (view after : View A) : Type 0 where
-    pub shown : after ≡ record view { all = history; seen = history }
-    pub seen : HasSeenOwn view
+  -- the keeper, and the part that it has, now know this history
+  pub record IsShown (history : List (Entry A)) (view after : View A) : Type 0 where
+    pub shown : after ≡ record view { known = slice_set view.known view.holder (Some history); seen = history }
+    pub agree : seen_by view.known view.holder ≡ Some view.seen
 
   -- the same, where the step was given an exchange
-  abbrev pub IsPublishedBy : Option (Exchange A) → View A → View A → Type 0
-  IsPublishedBy none view after = Unit {0}
-  IsPublishedBy (some core) view after = IsPublished core.history view after
+  abbrev pub IsShownBy : Maybe (Exchange A) → View A → View A → Type 0
+  IsShownBy none view after = Unit {0}
+  IsShownBy (some core) view after = IsShown core.history view after
 
-  -- the keeper now knows this history
-  abbrev pub IsExtended : List (Entry A) → View A → View A → Type 0
-  IsExtended history view after = after ≡ record view { all = history }
-
-  -- the same, where the step was given an exchange
-  abbrev pub IsExtendedBy : Option (Exchange A) → View A → View A → Type 0
-  IsExtendedBy none view after = Unit {0}
-  IsExtendedBy (some core) view after = IsExtended core.history view after
-
-  -- the keeper compared the claim with the history and took it back
-  pub record IsChecked (view after : View A) : Type 0 where
-    pub left : after ≡ closing view.next view.all view.recorded (view.line ∷ view.returned)
-    pub once : is_among view.line view.returned ≡ false
-    pub seen : HasSeenOwn view
-
-  -- the recorder's part that the keeper holds had seen what the keeper knows as recorded, a front of the history, and now knows
-  -- the whole history
-  pub record IsRead (view after : View A) : Type 0 where
-    pub shown : after ≡ record view { recorded = view.all; read = view.all }
-    pub same : view.recorded ≡ view.read
-    pub front : StartsWith view.all view.read
+  -- the keeper took the part back that it had
+  pub record IsReturned (view after : View A) : Type 0 where
+    pub left : after ≡ keeping (slice_set view.known view.holder None)
+    pub agree : seen_by view.known view.holder ≡ Some view.seen

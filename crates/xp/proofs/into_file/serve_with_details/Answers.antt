@@ -30,18 +30,25 @@ into_file own names run keeping started after result same made begun serves =
 
 pub settle-requires : goal.settle-requires
 settle-requires g c =
-    into_file c.args.subs.own c.args.subs.names c.args.details.run c.new-keeper.result c.in_ok-keeper.keeper c.in_ok-end.end.keeper c.in_ok-end.end.outcome
-    c.requires.names (c.new-keeper.ensures ∙ ap first_keeping c.copy.ensures) c.in_ok-keeper.ensures c.in_ok-end.ensures
+    let parts = c.into_parts-own in
+    into_file parts.result.0 parts.result.1 c.into_parts-file.result.1 c.new-keeper.result c.in_ok-keeper.keeper c.in_ok-end.end.keeper c.in_ok-end.end.outcome
+    (parts.ensures.names ∙ c.requires.names ∙ sym parts.ensures.own) (c.new-keeper.ensures ∙ ap first_keeping c.copy.ensures) c.in_ok-keeper.ensures c.in_ok-end.ensures
 
 pub returns-clause-ok : goal.returns-clause-ok
 returns-clause-ok g c =
     let before = g.W.Write.contents c.args.output.now in
     let after = g.W.Write.contents c.settle.new.output in
+    let parts = c.into_parts-own in
     let keeper = c.in_ok-end.end.keeper in
-    let began = first_opened c.args.subs.own c.args.subs.names c.new-keeper.result c.in_ok-keeper.keeper c.requires.names c.in_ok-keeper.ensures in
-    let is = opened c.args.subs.own c.in_ok-keeper.keeper keeper c.in_ok-end.end.outcome c.in_ok-end.ensures began in
-    (keeper, subst (λ tables. LeavesAlone tables c.args.details.run keeper before after c.settle.result) is c.settle.ensures)
+    let same = parts.ensures.names ∙ c.requires.names ∙ sym parts.ensures.own in
+    let began = first_opened parts.result.0 parts.result.1 c.new-keeper.result c.in_ok-keeper.keeper same c.in_ok-keeper.ensures in
+    let is = opened parts.result.0 c.in_ok-keeper.keeper keeper c.in_ok-end.end.outcome c.in_ok-end.ensures began in (
+      keeper,
+      subst (λ run. LeavesAlone c.args.subs.own run keeper before after c.settle.result) c.into_parts-file.ensures.run
+          (subst (λ tables. LeavesAlone tables c.into_parts-file.result.1 keeper before after c.settle.result) (is ∙ parts.ensures.own) c.settle.ensures),
+    )
 
 -- the live calls are those of the same exchange, too
 pub attend_details-requires-clause-live : goal.attend_details-requires-clause-live
-attend_details-requires-clause-live g c _ _ = subst (λ own. IfSome c.in_ok-beside.beside.live (λ live. live.opening ≡ own)) c.requires.live c.in_ok-beside.ensures
+attend_details-requires-clause-live g c _ _ =
+    subst (λ own. IfSome c.in_ok-beside.beside.live (λ live. live.opening ≡ own)) (c.into_parts-own.ensures.live ∙ c.requires.live ∙ sym c.into_parts-own.ensures.own) c.in_ok-beside.ensures

@@ -10,28 +10,28 @@ use Rattle.xp_lines.proofs.closing.stop.Goals as goal
 
 pub returns-in_default : goal.returns-in_default
 returns-in_default g c =
-    subst (λ session. GoesOnTo g.N.Name.subs g.L.Link.pushed g.L.Link.pulled session c.args.pass.now (states.Ended reasons.Stopped) c.args.pass.now) (sym c.in_default.is)
-    (so_closes g.N.Name.subs g.L.Link.pushed g.L.Link.pulled None c.args.pass.now reasons.Stopped c.args.pass.now refl refl)
+    subst (λ session. GoesOnTo g.N.Name.subs g.L.Link.pushed g.L.Link.pulled session c.args.seat.now.pass (states.Ended reasons.Stopped) c.args.seat.now.pass) (sym c.in_default.is)
+    (so_closes g.N.Name.subs g.L.Link.pushed g.L.Link.pulled None c.args.seat.now.pass reasons.Stopped c.args.seat.now.pass refl refl)
 
 pub returns-in-Ok : goal.returns-in-Ok
 returns-in-Ok g c =
-    let tells = subst (λ what. Tells c.args.pass.now what c.offer.result c.offer.new.pass) c.down.ensures c.offer.ensures.tells in
-    let gains = subst (λ result. Tells c.args.pass.now Down result c.offer.new.pass) c.in-Ok.is tells in
-    subst (λ session. GoesOnTo g.N.Name.subs g.L.Link.pushed g.L.Link.pulled session c.args.pass.now (states.Stopped c.unwritten_of.result) c.offer.new.pass) (sym c.in-Some.is)
-    (so_stops g.N.Name.subs g.L.Link.pushed g.L.Link.pulled c.in-Some.linked c.args.pass.now c.unwritten_of.result c.offer.new.pass gains gains.line c.unwritten_of.ensures)
+    let tells = subst (λ what. Tells c.args.seat.now.pass what c.offer.result c.offer.new.self.pass) c.down.ensures c.offer.ensures.tells in
+    let gains = subst (λ result. Tells c.args.seat.now.pass Down result c.offer.new.self.pass) c.in-Ok.is tells in
+    subst (λ session. GoesOnTo g.N.Name.subs g.L.Link.pushed g.L.Link.pulled session c.args.seat.now.pass (states.Stopped c.in-Some.linked) c.offer.new.self.pass) (sym c.in-Some.is)
+    (so_stops g.N.Name.subs g.L.Link.pushed g.L.Link.pulled c.in-Some.linked c.args.seat.now.pass c.offer.new.self.pass gains gains.line)
 
 pub returns-in-Err-Halted : goal.returns-in-Err-Halted
 returns-in-Err-Halted g c =
     let same = c.in-Err-Halted.ensures.tells.1 in
     let not_stopped : reasons.Halted ≡ reasons.Stopped → ⊥ = λ stopped. cc in
-    subst (λ session. GoesOnTo g.N.Name.subs g.L.Link.pushed g.L.Link.pulled session c.args.pass.now (states.Ended reasons.Halted) c.offer.new.pass) (sym c.in-Some.is)
-    (so_closes g.N.Name.subs g.L.Link.pushed g.L.Link.pulled (Some c.in-Some.linked) c.args.pass.now reasons.Halted c.offer.new.pass
-    (goes_not c.args.pass.now reasons.Halted c.offer.new.pass same not_stopped) (ap (λ pass. pass.line) same))
+    subst (λ session. GoesOnTo g.N.Name.subs g.L.Link.pushed g.L.Link.pulled session c.args.seat.now.pass (states.Ended reasons.Halted) c.offer.new.self.pass) (sym c.in-Some.is)
+    (so_closes g.N.Name.subs g.L.Link.pushed g.L.Link.pulled (Some c.in-Some.linked) c.args.seat.now.pass reasons.Halted c.offer.new.self.pass
+    (goes_not c.args.seat.now.pass reasons.Halted c.offer.new.self.pass same not_stopped) (ap (λ pass. pass.line) same))
 
 pub returns-in-Err-Journal : goal.returns-in-Err-Journal
 returns-in-Err-Journal g c =
     let same = c.in-Err-Journal.ensures.tells.1 in
     let not_stopped : reasons.Journal ≡ reasons.Stopped → ⊥ = λ stopped. cc in
-    subst (λ session. GoesOnTo g.N.Name.subs g.L.Link.pushed g.L.Link.pulled session c.args.pass.now (states.Ended reasons.Journal) c.offer.new.pass) (sym c.in-Some.is)
-    (so_closes g.N.Name.subs g.L.Link.pushed g.L.Link.pulled (Some c.in-Some.linked) c.args.pass.now reasons.Journal c.offer.new.pass
-    (goes_not c.args.pass.now reasons.Journal c.offer.new.pass same not_stopped) (ap (λ pass. pass.line) same))
+    subst (λ session. GoesOnTo g.N.Name.subs g.L.Link.pushed g.L.Link.pulled session c.args.seat.now.pass (states.Ended reasons.Journal) c.offer.new.self.pass) (sym c.in-Some.is)
+    (so_closes g.N.Name.subs g.L.Link.pushed g.L.Link.pulled (Some c.in-Some.linked) c.args.seat.now.pass reasons.Journal c.offer.new.self.pass
+    (goes_not c.args.seat.now.pass reasons.Journal c.offer.new.self.pass same not_stopped) (ap (λ pass. pass.line) same))

@@ -8,12 +8,12 @@ use Rattle.xp_lines.proofs.served_line.write_state.Goals as goal
 
 pub returns-in-Some : goal.returns-in-Some
 returns-in-Some g c =
-    subst (λ state. StaysSo g.N.Name.subs g.L.Link.pushed g.L.Link.pulled state c.args.pass.now (states.Stopped c.in-Some.rest) c.write_rest.new.pass) (sym c.in-Stopped.is)
-    (writes_more g.N.Name.subs g.L.Link.pushed g.L.Link.pulled c.in-Stopped.rest c.args.pass.now c.in-Some.rest c.write_rest.new.pass
-    (subst (λ result. WritesOn (modulus_of g.N.Name.subs c.args.pass.now.line) g.L.Link.pushed c.in-Stopped.rest c.args.pass.now result c.write_rest.new.pass) c.in-Some.is c.write_rest.ensures))
+    subst (λ state. StaysSo g.N.Name.subs g.L.Link.pushed g.L.Link.pulled state c.args.seat.now.pass (states.Stopped c.in-Some.rest) c.write_rest.new.seat.pass) (sym c.in-Stopped.is)
+    (writes_more g.N.Name.subs g.L.Link.pushed g.L.Link.pulled c.in-Stopped.rest c.args.seat.now.pass c.in-Some.rest c.write_rest.new.seat.pass
+    (subst (λ result. WritesOn (modulus_of g.N.Name.subs c.args.seat.now.pass.line) g.L.Link.pushed c.in-Stopped.rest c.args.seat.now.pass result c.write_rest.new.seat.pass) c.in-Some.is c.write_rest.ensures))
 
 pub returns-in-None : goal.returns-in-None
 returns-in-None g c =
-    subst (λ state. StaysSo g.N.Name.subs g.L.Link.pushed g.L.Link.pulled state c.args.pass.now (states.Ended Stopped) c.write_rest.new.pass) (sym c.in-Stopped.is)
-    (writes_all g.N.Name.subs g.L.Link.pushed g.L.Link.pulled c.in-Stopped.rest c.args.pass.now c.write_rest.new.pass
-    (subst (λ result. WritesOn (modulus_of g.N.Name.subs c.args.pass.now.line) g.L.Link.pushed c.in-Stopped.rest c.args.pass.now result c.write_rest.new.pass) c.in-None.is c.write_rest.ensures))
+    subst (λ state. StaysSo g.N.Name.subs g.L.Link.pushed g.L.Link.pulled state c.args.seat.now.pass (states.Ended Stopped) c.write_rest.new.seat.pass) (sym c.in-Stopped.is)
+    (writes_all g.N.Name.subs g.L.Link.pushed g.L.Link.pulled c.in-Stopped.rest c.args.seat.now.pass c.write_rest.new.seat.pass
+    (subst (λ result. WritesOn (modulus_of g.N.Name.subs c.args.seat.now.pass.line) g.L.Link.pushed c.in-Stopped.rest c.args.seat.now.pass result c.write_rest.new.seat.pass) c.in-None.is c.write_rest.ensures))

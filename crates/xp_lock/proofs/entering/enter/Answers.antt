@@ -1,5 +1,4 @@
-use Rattle.std.proofs.Common.{◌∙◌, ◌≤◌, ◌<◌, ap, arith, length, length-append, ◌∷◌, [], rules, subst, sym}
-use Rattle.xp_subs.specs.Tables.{line_count}
+use Rattle.std.proofs.Common.{◌∙◌, ◌≤◌, ap, arith, length, length-append, ◌∷◌, [], subst, sym}
 use Rattle.xp_step.specs.Exchange.{Advances, Exchange}
 use Rattle.xp_step.specs.Stalls.{left_after}
 use Rattle.xp_lock.specs.steps.Given.{with_lines}

@@ -1,5 +1,5 @@
 use Rattle.std.proofs.Common.{◌∙◌, ap, arith, length, sym}
-use Rattle.xp_seats.specs.Among.{is_among}
+use Rattle.xp_lock.specs.Given.{is_among}
 use Rattle.xp_lock.proofs.GivenLines.{room_for}
 use Rattle.xp_lock.proofs.given.add_lines.Goals as goal
 

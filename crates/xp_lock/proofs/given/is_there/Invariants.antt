@@ -1,5 +1,5 @@
 use Rattle.std.proofs.Common.{◌≡◌, drop}
-use Rattle.xp_seats.specs.Among.{is_among}
+use Rattle.xp_lock.specs.Given.{is_among}
 use Rattle.xp_lock.proofs.given.is_there.Given as goal
 
 abbrev pub invariant-loop-other : goal.invariant-loop-other

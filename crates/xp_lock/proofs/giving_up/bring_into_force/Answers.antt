@@ -1,10 +1,10 @@
-use Rattle.std.proofs.Common.{◌+◌, ◌<◌, ◌≤◌, ◌∙◌, [], ◌++◌, ap, arith, length, refl, rules, subst, sym}
+use Rattle.std.proofs.Common.{◌+◌, ◌<◌, ◌≤◌, ◌∙◌, ◌++◌, ap, arith, length, subst, sym}
 use Rattle.std.specs.Prelude.{slice_index_or}
 use Rattle.xp_core.specs.Reload.{reload_at}
 use Rattle.xp_step.specs.Exchange.{Advances, Exchange}
 use Rattle.xp_step.proofs.InForce.{run_frame}
-use Rattle.xp_lock.proofs.GivingUp.{GivingUp, begins, can, goes_on, is_line, item_is, none_left, passes, prepared}
-use Rattle.xp_lock.proofs.Reloads.{all_recorded, follows, forced_on, has_place, matches, reloads}
+use Rattle.xp_lock.proofs.GivingUp.{GivingUp, begins, can, goes_on, is_line, item_is, none_left, passes}
+use Rattle.xp_lock.proofs.Reloads.{forced_on, matches, reloads}
 use Rattle.xp_lock.proofs.giving_up.bring_into_force.Goals as goal
 use Rattle.xp_lock.proofs.giving_up.bring_into_force.Goals.{then-not-is_out_of_service, else-not-is_out_of_service}
 

@@ -16,8 +16,7 @@ invariant_of-result g c =
     let new = subst (λ n. AreNew n outboxes ends) lines c.in_ok-outboxes.ensures in (
       ap (λ e. e.history) c.in_ok-core.ensures,
       ap (λ e. e.given) c.in_ok-core.ensures,
-      c.in_ok-history_length.ensures.keeper,
-      c.in_ok-history_length.ensures.recorder,
+      c.in_ok-seats.ensures,
       new_kept _ outboxes ends new,
       new.queues,
       new.unused,

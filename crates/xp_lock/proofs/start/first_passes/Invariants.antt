@@ -1,10 +1,9 @@
-use Rattle.std.proofs.Common.{◌≡◌, ◌+◌, [], drop, length, map}
-use Rattle.std.specs.Prelude.{All}
+use Rattle.std.proofs.Common.{◌≡◌, ◌+◌, Some, [], drop, length, map}
+use Rattle.std.specs.Prelude.{All, replicate}
 use Rattle.std.specs.Vec.Iter.{into_iter_items, into_iter_len}
 use Rattle.xp_subs.specs.Tables.{line_count}
 use Rattle.xp_lock.specs.Opening.{AreFirst}
 use Rattle.xp_lock.specs.steps.Opening.{IsUnused}
-use Rattle.xp_seats.specs.Views.{keeping}
 use Rattle.xp_lock.proofs.start.first_passes.Given as goal
 
 abbrev pub invariant-loop-outbox : goal.invariant-loop-outbox
@@ -12,7 +11,7 @@ invariant-loop-outbox g l = record {
   can_next : (goal.iterator-loop-outbox g).can_next l.outbox-iterator;
   is_finite : (goal.iterator-loop-outbox g).is_finite l.outbox-iterator;
   many : length (into_iter_items l.outbox-iterator) ≡ into_iter_len l.outbox-iterator;
-  keeper : l.keeper ≡ record { history_length = g.N.Name.history_length; knows = keeping (length l.passes.items) [] [] };
+  seats : l.seats ≡ record { table = g.N.Name.seats; known = replicate (length l.passes.items) (Some []) };
   passes : AreFirst (length l.passes.items) l.passes.items;
   queues : map (λ end. end.queue) (into_iter_items l.outbox-iterator) ≡ drop (length l.passes.items) g.N.Name.queues;
   unused : All IsUnused (into_iter_items l.outbox-iterator);

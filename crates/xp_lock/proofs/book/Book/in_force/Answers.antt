@@ -1,6 +1,5 @@
 use Rattle.std.proofs.Common.{subst, sym}
 use Rattle.xp_reload.specs.Frame.{IsSameFrame}
-use Rattle.xp_step.specs.InForce.{in_force}
 use Rattle.xp_step.specs.Worlds.{world_after}
 use Rattle.xp_step.proofs.InForce.{run_frame}
 use Rattle.xp_lock.proofs.book.Book.in_force.Goals as goal

@@ -1,5 +1,0 @@
-use Rattle.xp_seats.proofs.Steps.{begins}
-use Rattle.xp_seats.proofs.history_length.HistoryLength.new.Goals as goal
-
-pub of_words-requires : goal.of_words-requires
-of_words-requires g c = begins
