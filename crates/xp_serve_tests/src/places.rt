@@ -25,8 +25,8 @@ const MOVES: usize = 40;
 /// How many connections ask for an answer at most.
 const MOST_CONNECTIONS: usize = 5;
 
-/// How often the thread of the lines looks at most, in hundredths of a second.
-const MOST_LOOKS: usize = 5_000;
+/// How long the thread of the lines serves them at most, in seconds.
+const MOST_SECONDS: u64 = 60;
 
 /// A call request, as a frame (RFC 1613).
 const CALL: &[u8] = b"\x00\x00\x00\x08\x10\x01\x0b\x22\x20\x10\x00\x00";
@@ -259,14 +259,24 @@ fn serve_both(both: TwoPlaces, places: &LinePlaces, is_over: &AtomicBool) {
     let mut first = first;
     let mut second = second;
     let mut thread = thread;
-    for _look in 0..MOST_LOOKS {
-        if is_over.load(SeqCst) {
+    let start = Start::read();
+    // Each look may be over at once: while the port moves, the thread looks again and again.
+    for _look in 0..usize::MAX {
+        if is_over.load(SeqCst) || is_late(&start) {
             return;
         }
         thread.poll(Patience::Short);
         answer(&mut first, b"1");
         answer(&mut second, b"2");
         forget_told(places);
+    }
+}
+
+/// Whether the lines were served for as long as they are at most.
+fn is_late(start: &Start) -> bool {
+    match start.seconds_now() {
+        Some(now) => now > start.seconds().saturating_add(MOST_SECONDS),
+        None => true,
     }
 }
 
