@@ -1,4 +1,4 @@
-"""An exchange whose subscription file is written anew while it serves, so that lines come and go: for reload_lines.py."""
+"""An exchange whose subscription file is written anew while it serves, so that lines come and go: for reload_lines.py and moving_ports.py."""
 
 import csv
 import dataclasses
@@ -115,13 +115,13 @@ def lives(caller, called):
 class Changing(Served):
     """An exchange with a console, over these stations, with spare places. The line of each letter has a port of its own."""
 
-    def __init__(self, program, folder, stations, places=PLACES):
+    def __init__(self, program, folder, stations, places=PLACES, words=()):
         self.folder = pathlib.Path(tempfile.mkdtemp(dir=folder))
         self.base = server.free_ports(len(LETTERS) + 2)
         self.console, self.xot_port = self.base + len(LETTERS), self.base + len(LETTERS) + 1
         self.places, self.routers = places, {}
         self.path, self.records_path = self.folder / "subscriptions.toml", self.folder / "calls.csv"
-        super().__init__(program, self.folder, self.text(stations), "--console", f"127.0.0.1:{self.console}", "--cdr", self.records_path)
+        super().__init__(program, self.folder, self.text(stations), "--console", f"127.0.0.1:{self.console}", "--cdr", self.records_path, *words)
 
     def __exit__(self, *gone):
         for router in self.routers.values():

@@ -6,6 +6,8 @@ README.md says what is checked.
 
 import contextlib
 import json
+import os
+import pathlib
 import socket
 import subprocess
 import time
@@ -13,12 +15,14 @@ import time
 import metrics_format
 import server
 from console_forms import wanted_metrics, wanted_table
-from routers import ACCEPTED, CALL, FIRST, PATIENCE, Router
+from days import library_in
+from routers import ACCEPTED, CALL, CLEAR, FIRST, PATIENCE, Router
 from server import call_request, frame
-from served import OUT_OF_ORDER, Served, data, require, rest_of, run_script, station, until
+from served import OUT_OF_ORDER, Served, answer_to_reload, data, require, rest_of, run_script, station, until
 
 GET = b"GET %s HTTP/1.1\r\nHost: localhost\r\n\r\n"
 STOP = b"POST /stop HTTP/1.1\r\nHost: localhost\r\nx-gonukire: stop\r\nContent-Length: 0\r\n\r\n"
+RELOAD = b"POST /reload HTTP/1.1\r\nHost: localhost\r\nX-Gonukire: reload\r\nContent-Length: 0\r\n\r\n"
 STOPPING = (
     b"HTTP/1.1 202 Accepted\r\ncontent-type: text/plain; charset=utf-8\r\ncache-control: no-store\r\nx-content-type-options: nosniff\r\n"
     b"content-security-policy: default-src 'none'; style-src 'unsafe-inline'; script-src 'unsafe-inline'; connect-src 'self'; "
@@ -70,14 +74,16 @@ REFUSALS = (
     (25, "reverse charging acceptance not subscribed"), (41, "fast select acceptance not subscribed"),
 )
 READY = bytes.fromhex("100121")
+REVERSE = bytes.fromhex("0101")
 
 # Events of the lines in the state that is looked at: see bring_to_a_known_state.
 EVENTS = 19
 
 
-def ask(exchange, octets, ends=False):
+def ask(exchange, octets, ends=False, seconds=PATIENCE):
     """What the console answers to these octets, until it closes the connection. With `ends` nothing comes behind them."""
     with exchange.reach() as connection:
+        connection.settimeout(seconds)
         connection.sendall(octets)
         if ends:
             connection.shutdown(socket.SHUT_WR)
@@ -91,17 +97,21 @@ def shown(exchange, path):
 
 
 class Shown(Served):
-    """An exchange of three stations with a console."""
+    """An exchange of three stations with a console. `barred` and `paying` are further keys of the second station and of the third."""
 
-    def __init__(self, program, folder, host="127.0.0.1"):
-        self.program = program
+    def __init__(self, program, folder, host="127.0.0.1", barred="", paying=""):
+        self.program, self.path = program, pathlib.Path(folder) / "subscriptions.toml"
         self.base = server.free_ports(5)
         self.console = self.base + 4
         text = (
-            station("200001", ("a1", self.base, "")) + station("200002", ("b1", self.base + 1, ""))
-            + station("200003", ("h1", self.base + 2, ""), ("h2", self.base + 3, ', address = "200032"'))
+            station("200001", ("a1", self.base, "")) + station("200002", ("b1", self.base + 1, ""), more=barred)
+            + station("200003", ("h1", self.base + 2, ""), ("h2", self.base + 3, ', address = "200032"'), more=paying)
         )
         super().__init__(program, folder, text, "--console", f"{host}:{self.console}")
+
+    def status(self):
+        """What `/status.json` has."""
+        return json.loads(shown(self, b"/status.json"))
 
     def shown_lines(self):
         """What `/status.json` has of each line, by its name."""
@@ -123,7 +133,7 @@ class Shown(Served):
 class ShownRouter(Shown):
     """An exchange of a station with a port, and of two stations with three lines behind one router, with a console."""
 
-    def __init__(self, program, folder):
+    def __init__(self, program, folder, environment=None):
         self.program = program
         self.base = server.free_ports(3)
         self.console = self.base + 2
@@ -134,7 +144,7 @@ class ShownRouter(Shown):
             + f'[[station]]\naddress = "300001"\nline = [{behind("x1")}, {behind("x2")}]\n'
             + f'[[station]]\naddress = "300002"\nline = [{behind("y1")}]\n'
         )
-        Served.__init__(self, program, folder, text, "--console", f"127.0.0.1:{self.console}")
+        Served.__init__(self, program, folder, text, "--console", f"127.0.0.1:{self.console}", environment=environment)
 
     def __exit__(self, *gone):
         with contextlib.suppress(AttributeError, OSError):
@@ -209,9 +219,9 @@ def address_in_use(program, folder):
 # ---- what is shown
 
 
-def call(caller, called, dialled):
+def call(caller, called, dialled, facilities=b""):
     """A call that is answered, with a data packet of two segments from the caller and one of one segment from the called line."""
-    caller.send(call_request(dialled))
+    caller.send(call_request(dialled, facilities))
     called.expect(CALL)
     called.accept()
     caller.expect(ACCEPTED)
@@ -332,6 +342,88 @@ def status(program, folder):
             check_form(exchange, lambda: exchange.asked("status", address), lambda status: (0, wanted_table(status), ""))
 
 
+def reloads(exchange):
+    """Has the file read again as it is, and once more with a fault. Returns the seconds between which the first is done."""
+    before, text = int(time.time()), exchange.path.read_text()
+    came = ask(exchange, RELOAD)
+    after = time.time()
+    require(came.startswith(b"HTTP/1.1 200 OK\r\n") and came.endswith(b"\r\n\r\nreloaded: nothing changed\n"), f"a reload is answered {came}")
+    exchange.path.write_text("station = ")
+    answer = answer_to_reload(exchange.console)
+    require(answer[0] == 409 and answer[1].startswith("xp: subscriptions: "), f"a reload of a faulty file is answered {answer}")
+    exchange.path.write_text(text)
+    return before, after
+
+
+def other_states(program, folder):
+    """A line that went, one that has to confirm a clear, a call that is barred, one that is paid for, a live one, reloads: each is shown so."""
+    with Shown(program, folder, barred="incoming_barred = true\n", paying="reverse_charging = true\n") as exchange:
+        a1, b1, h1 = (exchange.rise(exchange.base + place) for place in range(3))
+        b1.close()
+        exchange.wait_until_told("line b1: down: closed by the peer\n")
+        a1.send(call_request("200002"))
+        require(a1.cleared() == (0x0B, 70), "a call to a station that takes none is not refused as barred")
+        call(a1, h1, "200003", REVERSE)
+        a1.clear()
+        h1.expect(CLEAR)
+        h2 = exchange.rise(exchange.base + 3)
+        call(a1, h2, "200032")
+        before, after = reloads(exchange)
+        until(lambda: len(exchange.status()["recent"]) == 2, "records are missing")
+        came = exchange.status()
+        states = ["data transfer", "out of service", "DCE clear indication", "data transfer"]
+        peers = [line and "%s:%d" % line.connection.getsockname() for line in (a1, None, h1, h2)]
+        shown_lines = [(line["state"], line["call"], line["peer"]) for line in came["lines"]]
+        require(shown_lines == list(zip(states, (3, None, None, 3), peers)), f"the lines are {shown_lines}")
+        require(all(line["since"] >= came["started"] for line in came["lines"]), f"the lines are {came['lines']}")
+        ended = [(one["number"], one["called"] and one["called"]["line"], one["payer"], one["cleared"]["cause"], one["cleared"]["diagnostic"]) for one in came["recent"]]
+        require(ended == [(1, None, "caller", 0x0B, 70), (2, "h1", "called", 0, 0)], f"the ended calls are {ended}")
+        live = [(one["number"], one["caller"]["line"], one["called"]["line"], one["called"]["address"], one["segments"]) for one in came["calls"]]
+        require(live == [(3, "a1", "h2", "200032", {"from_called": 1, "from_caller": 2})], f"the live calls are {live}")
+        counted = [(one["address"], one["from"], one["to"], one["refused"]) for one in came["stations"]]
+        require(counted == [("200001", 2, 0, 1), ("200002", 0, 0, 0), ("200003", 0, 1, 0)], f"the stations are {counted}")
+        refused = {one["words"]: one["count"] for one in came["totals"]["refused"] if one["count"]}
+        require((refused, came["totals"]["calls"]) == ({"access barred": 1}, 3), f"the totals are {came['totals']}")
+        done = came["reloads"]
+        require((done["done"], done["refused"]) == (1, 1) and before <= done["last"] <= after, f"the reloads are {done}, of {before} to {after}")
+        check_form(exchange, lambda: shown(exchange, b"/metrics"), wanted_metrics)
+        check_form(exchange, lambda: shown(exchange, b"/status.txt"), wanted_table)
+
+
+# Seconds within which a reload is answered that waits for its file, and some for a machine that does other things too.
+RELOAD_WAITS, MORE = 10, 30
+
+
+def has_reloaded(exchange):
+    """Whether the console shows a reload. It may not answer while the file is read."""
+    head, _, body = ask(exchange, GET % b"/status.json").partition(b"\r\n\r\n")
+    return head.startswith(b"HTTP/1.1 200 ") and json.loads(body)["reloads"]["done"] == 1
+
+
+def reload_that_waits(program, folder):
+    """A reload that brings no answer in ten seconds is answered 503, and one behind it at once. Once its file can be read it comes, and so does the next."""
+    with Shown(program, folder) as exchange:
+        a1 = exchange.rise(exchange.base)
+        text = exchange.path.read_text()
+        exchange.path.unlink()
+        os.mkfifo(exchange.path)
+        # Whoever opens the pipe waits for one that writes to it.
+        for least, most in ((RELOAD_WAITS - 1, RELOAD_WAITS + MORE), (0, RELOAD_WAITS - 1)):
+            begun = time.monotonic()
+            came = ask(exchange, RELOAD, seconds=RELOAD_WAITS + MORE)
+            took = time.monotonic() - begun
+            require(came.startswith(b"HTTP/1.1 503 ") and b"\r\nretry-after: 10\r\n" in came.lower(), f"a reload that waits is answered {came}")
+            require(least <= took <= most, f"a reload is answered 503 after {took:.1f} seconds, which are to be {least} to {most}")
+        a1.clear()
+        exchange.path.write_text(text)
+        until(lambda: has_reloaded(exchange), "the reload that has waited does not come")
+        exchange.path.unlink()
+        exchange.path.write_text(text)
+        answer = answer_to_reload(exchange.console)
+        require(answer == (200, "reloaded: nothing changed"), f"the next reload is answered {answer}")
+        require(exchange.end() == 0, f"it ended badly; {exchange.said()}")
+
+
 def octets_of_the_known_state():
     """The octets that both lines have sent and got, with the four octets before each packet."""
     requested, incoming, connected, accepted, packets = 12, 21, 15, 7, 107 + 10 + 7
@@ -379,6 +471,33 @@ def router_failures(program, folder):
         require("gonukire_router_failures_total 4\n" in shown(exchange, b"/metrics"), "the failures are forgotten")
 
 
+# How much later the program is told that it is, in seconds: 1d 2:03:04.
+LATER = 93_784
+
+
+def days(program, folder):
+    """An exchange that has served for a day and more, with a router that has failed as long, tells days."""
+    later = pathlib.Path(folder) / "later"
+    environment = {"LD_PRELOAD": str(library_in(folder)), "XP_CLOCK_LATER": str(later)}
+    with ShownRouter(program, folder, environment) as exchange:
+        a1 = exchange.rise(exchange.base)
+        fail_to_connect(exchange, a1, 2)
+        # Since when a line is in its state is known from the first look on.
+        require(exchange.shown_lines()["a1"]["state"] == "ready", "the line a1 is not ready")
+        later.write_text(str(LATER))
+        until(lambda: exchange_age(exchange) >= LATER, "the exchange does not get older")
+        text = check_form(exchange, lambda: shown(exchange, b"/status.txt"), wanted_table)
+        require(text.startswith("serving for 1d 2:0"), f"the table begins with\n{text[:100]}")
+        require(text.count(", router unreachable for 1d 2:0") == 3, f"the table does not tell for how long a router is unreachable\n{text}")
+        require(len([row for row in text.splitlines() if row.startswith("a1 ") and " 1d 2:0" in row]) == 1, f"the line a1 has no days\n{text}")
+        require(exchange.end() == 0, f"it ended badly; {exchange.said()}")
+
+
+def exchange_age(exchange):
+    status = json.loads(shown(exchange, b"/status.json"))
+    return status["moment"] - status["started"]
+
+
 def stations(program, folder):
     """Each station has the count of its ended calls in both directions and of its refused call requests, in the JSON and the metrics."""
     with Shown(program, folder) as exchange:
@@ -418,7 +537,7 @@ def stop(program, folder):
             require(run == (5, "", f"xp: console: {wanted}\n"), f"`xp status` of nobody ends with {run}")
 
 
-CHECKS = (answers, own_address, crowd, one_stop, address_in_use, status, router_failures, stations, stop)
+CHECKS = (answers, own_address, crowd, one_stop, address_in_use, status, other_states, reload_that_waits, router_failures, days, stations, stop)
 
 
 if __name__ == "__main__":

@@ -285,7 +285,28 @@ def removed(program, folder):
     require(found == list(range(found[0], sum(exchange.made) + 1)), "the new file lacks records, or has them in another order")
 
 
-CHECKS = (over_midnight, without_calls, a_quiet_one, killed, other_names, refusals, full_disk, directory_gone, removed)
+# Moments at which an exchange begins, and their texts in a record: leap years, the last one that has a date, and one behind it.
+MOMENTS = (
+    (0, "1970-01-01T00:0"), (951_782_400, "2000-02-29T00:0"), (4_107_541_800, "2100-02-28T23:5"), (4_107_542_400, "2100-03-01T00:0"),
+    (1_798_761_000, "2026-12-31T23:5"), (253_402_206_600, "9999-12-30T21:5"), (253_402_207_201, "2534022"),
+)
+
+
+def moments(program, folder):
+    """An exchange that begins at a moment far off has the date of it in its records, and the number behind the last one that has a date."""
+    environment = {"LD_PRELOAD": str(library_in(folder))}
+    for begins, wanted in MOMENTS:
+        details, port = pathlib.Path(folder) / f"moment-{begins}.csv", server.free_ports(1)
+        text, environment["XP_CLOCK"] = station("200002", ("b0", port, "")), str(begins)
+        with Served(program, folder, text, "--cdr", details, environment=environment) as exchange:
+            refused_call(exchange.rise(port))
+            require(exchange.end() == 0, f"it ended badly; {exchange.said()}")
+        row = rows_of(details)[0]
+        for name in ("started", "requested", "ended"):
+            require(row[name].startswith(wanted) and row[name].endswith("Z") == (begins <= 253_402_207_200), f"{name} is {row[name]} at {begins}")
+
+
+CHECKS = (over_midnight, without_calls, a_quiet_one, killed, other_names, refusals, full_disk, directory_gone, removed, moments)
 
 
 if __name__ == "__main__":

@@ -13,7 +13,7 @@ import time
 import server
 from disk import library_in
 from endings import HEADER
-from records_file import LINES, NAMES, REVERSE, Recorded, refused_call, rows_of, seconds_of, subscriptions
+from records_file import LINES, NAMES, REVERSE, Recorded, metric, refused_call, rows_of, seconds_of, subscriptions
 from routers import ACCEPTED, CALL
 from server import call_request
 from served import data, refused, require, run_script, until
@@ -146,13 +146,18 @@ def stopped(program, folder):
 
 
 def kill(program, folder):
-    """The next start gives each live call a partial record, once; it begins later than the run that was killed."""
+    """The next start gives each live call a partial record, once, and counts it; it begins later than the run that was killed."""
     details, live = folder_of(folder, "killed")
     killed(program, details, live)
     require(rows_of(details) == [], "the records were written before the kill")
-    lines = live.read_text()
-    told = started_and_ended(program, details)
+    lines, console = live.read_text(), server.free_ports(1)
+    with Recorded(program, details.parent, details, "--console", f"127.0.0.1:{console}") as exchange:
+        exchange.line("b1")
+        count = metric(exchange.connect(console), "partial_records")
+        require(exchange.end() == 0, f"it ended badly; {exchange.said()}")
+    told = exchange.told()
     require(told.count("cdr: 2 calls of the run before got a partial record\n") == 1, f"it has told: {told}")
+    require(count == 2, f"the metrics have {count} partial records")
     require(details.read_text() == lines and told_of(rows_of(details)) == TOLD, f"the records are {details.read_text()}")
     require(live.read_text() == NAMES, f"the live calls are {live.read_text()}")
     with Recorded(program, details.parent, details) as exchange:

@@ -36,11 +36,21 @@ def pair(base, lines=FEW, more=""):
 
 def connection_from(address, port):
     """A connection from this address of the machine to a port."""
-    connection = socket.socket()
+    is_long = ":" in address
+    connection = socket.socket(socket.AF_INET6 if is_long else socket.AF_INET)
     connection.settimeout(PATIENCE)
     connection.bind((address, 0))
-    connection.connect(("127.0.0.1", port))
+    connection.connect(("::1" if is_long else "127.0.0.1", port))
     return connection
+
+
+def has_long_addresses():
+    """Whether this machine has addresses of IPv6."""
+    try:
+        socket.create_server(("::1", 0), family=socket.AF_INET6).close()
+    except OSError:
+        return False
+    return True
 
 
 def comes(line, *packets):
@@ -104,6 +114,26 @@ def output_that_fails(program, folder):
                 comes(b1)
                 status, last = exchange.end(is_asked=False), exchange.told().splitlines()[-1]
                 require((status, last) == (5, "xp: output"), f"of {lines} lines it ended with status {status}; {exchange.said()}")
+
+
+def output_that_ends(program, folder):
+    """A reader of the records goes after the first one: the second one cannot be printed, and the exchange ends with status 5."""
+    base = server.free_ports(FEW)
+    read, written = os.pipe()
+    with open(written, "w") as output, Served(program, folder, pair(base), output=output) as exchange:
+        a1, b1 = exchange.rise(base), exchange.rise(base + 1)
+        call_and_clear(exchange, a1, b1)
+        b1.send(CLEAR_CONFIRMATION)
+        first = b""
+        while not first.endswith(b"\n"):
+            first += os.read(read, 1)
+        os.close(read)
+        require(first.rpartition(b" ")[0] == b"record 1 a1 b1 200002 caller 0 0 00 0", f"the first record is {first}")
+        b1.clear()
+        call_and_clear(exchange, a1, b1)
+        comes(a1)
+        status, last = exchange.end(is_asked=False), exchange.told().splitlines()[-1]
+        require((status, last) == (5, "xp: output"), f"it ended with status {status}; {exchange.said()}")
 
 
 def at_localhost(program, folder):
@@ -186,6 +216,53 @@ def strangers(program, folder):
         require(exchange.told().count("stopping: standard input has ended\n") == 1, exchange.said())
 
 
+# Sources of a line, and the addresses from which it may be connected and from which it may not. Of a network these are the first and the
+# last one, and those beside them; bits behind the prefix mean nothing. Where the only address of IPv6 is ::1, the networks lie around it.
+SOURCES_OF = (
+    ('["127.0.0.9", "::1", "::ffff:127.0.0.7"]', ("127.0.0.9", "127.0.0.7", "::1"), ("127.0.0.8",)),
+    ('"127.0.0.9"', ("127.0.0.9",), ("127.0.0.8", "127.0.0.10", "::1")),
+    ('"::127.0.0.9"', (), ("127.0.0.9",)),
+    ('"127.64.0.0/10"', ("127.64.0.1", "127.127.255.255"), ("127.63.255.255", "127.128.0.0", "::1")),
+    ('"127.1.2.99/27"', ("127.1.2.96", "127.1.2.127"), ("127.1.2.95", "127.1.2.128")),
+    ('"127.0.0.9/32"', ("127.0.0.9",), ("127.0.0.8", "127.0.0.10")),
+    ('"0.0.0.0/0"', ("127.0.0.1", "127.255.255.254"), ("::1",)),
+    ('"128.0.0.0/1"', (), ("127.255.255.254", "::1")),
+    ('"::/0"', ("::1",), ("127.0.0.9",)),
+    ('"::/32"', ("::1",), ("127.0.0.9",)),
+    ('"0:0:1:2::3/32"', ("::1",), ()),
+    ('"0:1::/32"', (), ("::1",)),
+    ('"::/127"', ("::1",), ()),
+    ('"::2/127"', (), ("::1",)),
+    ('"::2/126"', ("::1",), ()),
+    ('"::1/128"', ("::1",), ()),
+    ('"::/128"', (), ("::1",)),
+    ('"::2/128"', (), ("::1",)),
+    ('["10.0.0.1", "10.0.0.2", "10.0.0.3", "10.0.0.4", "10.0.0.5", "10.0.0.6", "10.0.0.7", "127.0.0.9"]', ("127.0.0.9",), ("127.0.0.8",)),
+)
+
+
+def sources(program, folder):
+    """Lines take connections from the addresses and networks that they name, by IPv4 and by IPv6, and by no others."""
+    # An exchange at :: has the addresses of IPv4 as ::ffff:127.0.0.9.
+    hosts = ("127.0.0.1", "::") if has_long_addresses() else ("127.0.0.1",)
+    if len(hosts) == 1:
+        print("sources: by IPv6: left out: this machine has no ::1", flush=True)
+    for host in hosts:
+        base = server.free_ports(len(SOURCES_OF))
+        stations = (station(f"20{place:04}", (f"a{place}", base + place, f", from = {texts}")) for place, (texts, _, _) in enumerate(SOURCES_OF))
+        with Served(program, folder, f'host = "{host}"\n' + "".join(stations)) as exchange:
+            exchange.wait_until_told("serving ")
+            for place, (texts, named, unnamed) in enumerate(SOURCES_OF):
+                for address in filter(lambda it: host == "::" or ":" not in it, named + unnamed):
+                    line = XotCall(connection_from(address, base + place))
+                    if address in named:
+                        line.clear()
+                        line.close()
+                    else:
+                        require(line.receive() == b"", f"a line at {host} with from = {texts} has a connection from {address}")
+            require(exchange.end() == 0, f"it ended badly; {exchange.said()}")
+
+
 def first_and_last_lines(program, folder):
     """The log begins with what is served, and where, and it tells by what the exchange is stopped."""
     base = server.free_ports(MANY + 1)
@@ -247,7 +324,7 @@ def no_descriptors(program, folder):
         require(exchange.end() == 0, f"it ended badly; {exchange.said()}")
 
 
-CHECKS = (calls, output_that_fails, at_localhost, refusals, strangers, first_and_last_lines, quiet, no_descriptors)
+CHECKS = (calls, output_that_fails, output_that_ends, at_localhost, refusals, strangers, sources, first_and_last_lines, quiet, no_descriptors)
 
 
 if __name__ == "__main__":

@@ -14,7 +14,7 @@ import server
 from endings import HEADER
 from routers import ACCEPTED, CALL
 from server import call_request
-from served import Served, data, refused, require, run_script, station, until
+from served import Served, answer_to_reload, data, refused, require, run_script, station, until
 
 NAMES = ",".join(HEADER) + "\n"
 
@@ -163,9 +163,13 @@ def origins(program, folder):
     require(found == [("b1", host, "call"), ("a1", host, "stop")], f"the records tell {found}")
 
 
+# The longest name that an exchange can have.
+LONGEST = 6 * "0123456789" + "a.-Z"
+
+
 def names(program, folder):
-    """The exchange has the name that `--name` gives it, else the one of its subscription file."""
-    for name, wanted in ((None, "Bern1"), ("x-1.net", "x-1.net")):
+    """The exchange has the name that `--name` gives it, of 1 to 64 characters, else the one of its subscription file."""
+    for name, wanted in ((None, "Bern1"), ("x-1.net", "x-1.net"), ("A", "A"), (LONGEST, LONGEST)):
         details = pathlib.Path(folder) / f"names-{wanted}.csv"
         with Recorded(program, folder, details, name=name, own_name="Bern1") as exchange:
             refused_call(exchange.line("b1"))
@@ -235,6 +239,32 @@ def old_columns(program, folder):
     require((details.read_text(), moved.read_text()) == (OLD_NAMES, OLD_NAMES + OLD_LINE), "a file was changed")
 
 
+# What a file has, and when the run behind it begins by its records: now, where the last whole line does not begin with a moment.
+LATEST, BEHIND = "2099-01-01T00:01:00Z", "2099-01-01T00:01:01Z"
+LAST = (
+    (NAMES, None),
+    (NAMES + f"{LATEST},1\n", BEHIND),
+    (NAMES + f"2026-11-26T12:00:00Z,1\n{LATEST},2\n2098-01-01", BEHIND),
+    (NAMES + f"{LATEST},1\n2099-01-01T00:01:00+00:00,2\n", None),
+    (NAMES + f"{LATEST},1\n{LATEST}\n", None),
+    (NAMES + f"{LATEST},1\n\n", None),
+    (OLD_NAMES + f"{LATEST},1\n", BEHIND),
+)
+
+
+def begins_behind_the_last(program, folder):
+    """A run begins a second later than that of the last whole line of the file, if this has begun later, also where the file has fewer columns."""
+    for place, (text, wanted) in enumerate(LAST):
+        details, begun = pathlib.Path(folder) / f"begins-{place}.csv", int(time.time())
+        details.write_text(text)
+        with Recorded(program, folder, details) as exchange:
+            refused_call(exchange.line("b1"))
+            require(exchange.end() == 0, f"it ended badly; {exchange.said()}")
+        started = details.read_text().splitlines()[-1].partition(",")[0]
+        is_so = started == wanted if wanted else begun <= seconds_of(started) <= time.time() + 1
+        require(is_so, f"behind {text[-60:]!r} a run begins at {started} in place of {wanted or 'now'}")
+
+
 OTHERS = ("started\n", "a note", "started,number\n1,2\n")
 
 
@@ -263,14 +293,19 @@ def files_that_are_refused(program, folder):
 # ---- a disk that takes no more
 
 
-def waiting(console):
-    """How many records wait, by the console."""
+def metric(console, name):
+    """The value of a metric without labels, by the console."""
     with console as connection:
         connection.sendall(b"GET /metrics HTTP/1.1\r\nHost: localhost\r\n\r\n")
         text = b""
         while more := connection.recv(65_536):
             text += more
-    return int(re.search(rb"gonukire_records_waiting (\d+)", text)[1])
+    return int(re.search(rb"\ngonukire_%s (\d+)\n" % name.encode(), text)[1])
+
+
+def waiting(console):
+    """How many records wait, by the console."""
+    return metric(console, "records_waiting")
 
 
 def full_disk(program, folder):
@@ -301,6 +336,35 @@ def full_disk(program, folder):
         require(exchange.printed() == "", "it has printed something")
 
 
+def renamed_while_records_wait(program, folder):
+    """A line gets another address while a record waits: each is told by the subscriptions by which its call has ended, in order."""
+    details = pathlib.Path(folder) / "renamed.csv"
+    console = server.free_ports(1)
+    with Recorded(program, folder, details, "--console", f"127.0.0.1:{console}", limit=len(NAMES)) as exchange:
+        a1, b1 = exchange.line("a1"), exchange.line("b1")
+        for number, address in enumerate(("200002", "200009"), 1):
+            a1.send(call_request(address))
+            b1.expect(CALL)
+            b1.accept()
+            a1.expect(ACCEPTED)
+            a1.clear()
+            b1.cleared()
+            b1.clear()
+            until(lambda: waiting(exchange.connect(console)) == number, f"{number} records do not wait")
+            if number == 1:
+                exchange.wait_until_told("call detail records wait: ")
+                file = pathlib.Path(folder) / "subscriptions.toml"
+                file.write_text(file.read_text().replace('"200002"', '"200009"'))
+                answer = answer_to_reload(console)
+                require(answer[0] == 200, f"a reload is answered {answer}")
+        require(details.read_text() == NAMES, f"the file has {details.read_text()!r}")
+        exchange.limit_files(None)
+        until(lambda: waiting(exchange.connect(console)) == 0, "records wait that can be written")
+        require(exchange.end() == 0, f"it ended badly; {exchange.said()}")
+    found = [(row["number"], row["called_line"], row["called_address"], row["dialled"]) for row in rows_of(details)]
+    require(found == [("1", "b1", "200002", "200002"), ("2", "b1", "200009", "200009")], f"the records are {found}")
+
+
 def full_disk_at_the_end(program, folder):
     """An exchange that stops while records wait prints the lines that the file does not hold whole, and ends with status 5."""
     details = pathlib.Path(folder) / "last.csv"
@@ -322,7 +386,10 @@ def full_disk_at_the_end(program, folder):
         require([row["number"] for row in rows_of(details)] == ["1", "2", "3"], "the file and what was printed are not the three records")
 
 
-CHECKS = (columns, origins, names, new_and_old_file, torn_line, old_columns, files_that_are_refused, full_disk, full_disk_at_the_end)
+CHECKS = (
+    columns, origins, names, new_and_old_file, torn_line, old_columns, begins_behind_the_last, files_that_are_refused, full_disk,
+    renamed_while_records_wait, full_disk_at_the_end,
+)
 
 
 if __name__ == "__main__":

@@ -24,6 +24,9 @@ AT_ONCE = 1
 # What the far end of a call is told whose line goes, and the record of that call.
 GONE = (0x09, 0)
 
+# How often a file is refused while octets come.
+REFUSALS = 10
+
 
 # ---- lines that come
 
@@ -89,6 +92,24 @@ def a_port_is_taken(program, folder):
         caller.clear()
         called.cleared()
         exchange.ends_with(("a1", "b1", (0, 0)))
+
+
+def refused_behind_its_ports(program, folder):
+    """A file that is refused for a line in a call leaves a line alone that was to go: octets that came meanwhile are heard, no port is open."""
+    with Changing(program, folder, plain("a1", "b1", "c1")) as exchange:
+        caller, called, c1 = exchange.rise_all("a1", "b1", "c1")
+        connected(caller, called, ADDRESSES["b"])
+        for _ in range(REFUSALS):
+            c1.send(CLEAR_REQUEST)
+            exchange.refuses(own("a1"), own("b1", address=ADDRESSES["h"]), own("d1"), own("e1", port="c"), told="xp: reload: line b1: in a call")
+            c1.expect(CONFIRMATION)
+            exchange.is_closed("d1")
+            lives(caller, called)
+        exchange.shows("a1", "b1", "c1")
+        caller.clear()
+        called.cleared()
+        exchange.call(caller, c1, ADDRESSES["c"])
+        exchange.ends_with(("a1", "b1", (0, 0)), ("a1", "c1", (0, 0)))
 
 
 # ---- lines that go
@@ -375,8 +396,8 @@ def reloads_by_turns(count, program, folder):
 
 
 CHECKS = (
-    a_line_comes, places_are_counted, a_port_is_taken, a_line_goes, both_ends_go, a_line_is_renamed, a_port_changes, an_address_moves,
-    sources_change, lines_behind_a_router, callers_change,
+    a_line_comes, places_are_counted, a_port_is_taken, refused_behind_its_ports, a_line_goes, both_ends_go, a_line_is_renamed,
+    a_port_changes, an_address_moves, sources_change, lines_behind_a_router, callers_change,
 )
 
 

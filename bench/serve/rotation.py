@@ -126,17 +126,28 @@ def something_else(program, folder):
 
 
 def as_syncs_fail(program, folder):
-    """The file is moved while what was written to it is in doubt: that is put right there, and then a new file is begun."""
-    details, moved = (pathlib.Path(folder) / name for name in ("failing.csv", "failing-moved.csv"))
-    # The syncs are those of the file at the path. The last one may be that of the new file.
-    disk = {"LD_PRELOAD": str(library_in(folder)), "XP_DISK_FILE": str(details), "XP_DISK_SYNCS": "3,4,5"}
-    with Calling(program, folder, details, disk) as exchange, exchange.calls():
-        exchange.wait_until_told("call detail records wait: ")
-        details.rename(moved)
-        exchange.wait_until_told("call detail records are written again")
-        # Both are tried again each second.
-        exchange.wait_until_begun(1, 3 + TOLD)
-    require_all(exchange, [numbers(rows_of(path)) for path in (moved, details)])
+    """The file is moved while what was written to it is in doubt: that is put right there, and then a new file is begun at its path, once that is free."""
+    for is_taken in (False, True):
+        details, moved = (pathlib.Path(folder) / f"{name}-{is_taken}.csv" for name in ("failing", "failing-moved"))
+        other = pathlib.Path(folder) / "failing-note"
+        other.write_text("a note")
+        # The syncs are those of the file at the path. The last one may be that of the new file.
+        disk = {"LD_PRELOAD": str(library_in(folder)), "XP_DISK_FILE": str(details), "XP_DISK_SYNCS": "3,4,5"}
+        with Calling(program, folder, details, disk) as exchange, exchange.calls():
+            exchange.wait_until_told("call detail records wait: ")
+            if is_taken:
+                os.link(details, moved)
+                other.replace(details)
+            else:
+                details.rename(moved)
+            exchange.wait_until_told("call detail records are written again")
+            if is_taken:
+                exchange.wait_until_told(NOT_BEGUN)
+                require(details.read_text() == "a note", "what was at the path has changed")
+                details.unlink()
+            # Both are tried again each second.
+            exchange.wait_until_begun(1, 3 + TOLD)
+        require_all(exchange, [numbers(rows_of(path)) for path in (moved, details)])
 
 
 def unpacked(path):
