@@ -1,12 +1,10 @@
-//! Tests of call detail records: texts that no run of the program has, a file that fails, and files on the disk.
+//! Tests of call detail records: numbers that no run of the program has, a text that finds no memory, and a file that fails.
 #![tactic(auto)]
 
 #[cfg(test)]
 mod calls;
 #[cfg(test)]
 mod failing;
-#[cfg(test)]
-mod on_disk;
 #[cfg(test)]
 mod texts;
 #[cfg(test)]

@@ -4,8 +4,6 @@
 #[cfg(test)]
 mod fakes;
 #[cfg(test)]
-mod reloads;
-#[cfg(test)]
 mod replays;
 #[cfg(test)]
 mod steps;

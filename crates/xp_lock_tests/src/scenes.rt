@@ -29,12 +29,6 @@ use xp_testing::{Refusing, THREE_STATIONS};
 /// stall's.
 ///
 /// A prompt line: b1 takes each of forty packets at once, and is not stalled.
-///
-/// Other subscriptions: where b1 is barred, a1 is refused, and the record is handed over as b1 is open again; then b1 is rung. Of seven
-/// entries two are reloads.
-///
-/// A line that goes in a call: b1 is given up as its place becomes spare. Its record is handed over, a1 is told a clear indication, and
-/// b1 that its connection is closed. Nobody has its address then. Once b1 is back in its place, it is called.
 const SCENES: &str = "a1 up b1 up at=1 a1 call halt at=2 b1 accepted takes
 = 0 1 halted 1 call 0 0 3 0 1 0 received 0 missing 4
 
@@ -56,21 +50,7 @@ a1 takes at=200 b1 up takes up
 a1 up b1 up a1 ?call at=10 b1 accepted at=99
 5x tick a1 drops data0 b1 drops ready1 tick a1 drops data1 b1 drops ready2 tick a1 drops data2 b1 drops ready3 tick a1 drops data3 b1 drops ready4 tick a1 drops data4 b1 drops ready5 tick a1 drops data5 b1 drops ready6 tick a1 drops data6 b1 drops ready7 tick a1 drops data7 b1 drops ready0
 a1 takes b1 drops at=200 b1 up takes up
-= 1 1 other 0 0 0 none 0 0 86 41 41 0 received 0 missing 4
-
-a1 up b1 up
-barred
-a1 call takes confirmation
-open
-a1 ?call b1 takes
-= 0 0 1 clear 11 70 1 0 1 1 call 0 0 7 1 1 1 received 1 missing 4
-
-a1 up b1 up a1 ?call at=10 b1 accepted at=20
-gone
-a1 takes b1 takes at=30 a1 confirmation call takes confirmation
-open
-b1 up a1 ?call b1 takes
-= 1 1 0 2 clear 9 0 2 close 0 0 1 clear 13 67 1 0 1 1 call 0 0 12 3 3 2 received 2 missing 4";
+= 1 1 other 0 0 0 none 0 0 86 41 41 0 received 0 missing 4";
 
 /// b1 is stalled, and the record is taken.
 const REFUSED: &str = "a1 up b1 up a1 call b1 accepted

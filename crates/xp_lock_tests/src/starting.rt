@@ -6,12 +6,10 @@ ghost use Rattle.std.specs.Prelude.{◌≡◌};
 
 use crate::log::Log;
 use crate::playing::{play, take_records};
-use std::alloc::{AllocError, Allocator, Global};
+use std::alloc::{AllocError, Allocator};
 use std::sync::Wait;
 use xp_lock::{CloseFault, Exchange, LinePass, PreparedExchange};
 use xp_seats::{Name, Recorder};
-use xp_subs::Subs;
-use xp_testing::THREE_STATIONS;
 
 /// Scripts, a line each.
 #[derive(Clone, Copy)]
@@ -19,31 +17,8 @@ pub struct Scripts<'a> {
     pub text: &'a str,
 }
 
-/// Three stations, of which that of b1 takes no calls.
-const BARRED: &str = r#"[[station]]
-address = "2080010"
-line = [{ name = "a1", port = 19981 }]
-[[station]]
-address = "2080020"
-fast_select = true
-incoming_barred = true
-line = [{ name = "b1", port = 19982 }]
-[[station]]
-address = "2080030"
-line = [{ name = "h1", port = 19983 }, { name = "h2", port = 19984, address = "2080032" }, { name = "h3", port = 19985 }]
-"#;
-
-/// The stations without that of b1, whose place is spare then.
-const GONE: &str = r#"[[station]]
-address = "2080010"
-line = [{ name = "a1", port = 19981 }]
-[[station]]
-address = "2080030"
-line = [{ name = "h1", port = 19983 }, { name = "h2", port = 19984, address = "2080032" }, { name = "h3", port = 19985 }]
-"#;
-
-/// Plays a scene of scripts, a line each: `records` takes the records that wait, and tells the number of the last; `barred`, `gone` and
-/// `open` put other subscriptions into force. Nothing is told where memory is wanting at the start.
+/// Plays a scene of scripts, a line each: `records` takes the records that wait, and tells the number of the last. Nothing is told where
+/// memory is wanting at the start.
 pub fn scene<N: Name, A: Allocator + Copy>(
     rt: &impl Wait,
     alloc: A,
@@ -63,9 +38,6 @@ pub fn scene<N: Name, A: Allocator + Copy>(
     for script in scripts.text.lines() {
         let done = match script {
             "records" => tell_records(rt, &exchange, &mut recorder, &mut log),
-            "barred" => reload(rt, &exchange, &mut recorder, BARRED, &mut log),
-            "gone" => reload(rt, &exchange, &mut recorder, GONE, &mut log),
-            "open" => reload(rt, &exchange, &mut recorder, THREE_STATIONS, &mut log),
             _ => play(rt, alloc, &exchange, &mut passes, script, &mut log),
         };
         played = played.and(done);
@@ -86,34 +58,6 @@ fn tell_records<N: Name, A: Allocator + Copy>(
 ) -> Result<(), AllocError> {
     take_records(rt, exchange, recorder, log)?;
     log.tell_numbers(&[log.record])
-}
-
-/// Puts these subscriptions into force, and tells how many records were handed over, and whether it was refused.
-fn reload<N: Name, A: Allocator + Copy>(
-    rt: &impl Wait,
-    exchange: &Exchange<N, A>,
-    recorder: &mut Recorder<N, A>,
-    text: &str,
-    log: &mut Log,
-) -> Result<(), AllocError> {
-    let Some(next) = laid(log.alloc, text) else {
-        return Err(AllocError);
-    };
-    let mut guard = exchange.lock(rt);
-    match guard.reload(rt, recorder, next, log.moment) {
-        Ok(records) => {
-            log.note_records(&records)?;
-            log.tell_numbers(&[records.len() as u64, 0])
-        }
-        Err(_) => log.tell_numbers(&[0, 1]),
-    }
-}
-
-/// These subscriptions, laid over those of the start.
-fn laid(alloc: Global, text: &str) -> Option<Subs> {
-    let first = Subs::read(alloc, THREE_STATIONS).ok()?;
-    let next = Subs::read(alloc, text).ok()?;
-    first.laid_over(alloc, next).ok()
 }
 
 /// Tells how many records the recorder received. Closes the exchange without the last pass, and tells the line whose pass is

@@ -1,6 +1,5 @@
 //! Notices of the lines' connections.
 
-use std::net::{Ipv4Addr, SocketAddr, SocketAddrV4};
 use std::test::Fail;
 use xp_clock::Start;
 use xp_tcp::{DownReason, Notice, Notices};
@@ -44,18 +43,5 @@ fn more_notices_than_there_is_room_for(rt: HostRuntime) -> Result<(), Fail> {
     notices.tell(down(7));
     assert!(rt; is_down(notices.take(), 7));
     assert_eq!(rt; notices.take_lost(), 0);
-    Ok(())
-}
-
-/// A notice has its line, and a text without it.
-#[test]
-fn text_of_a_notice(rt: HostRuntime) -> Result<(), Fail> {
-    let peer = SocketAddr::V4(SocketAddrV4::new(Ipv4Addr::new(10, 0, 0, 9), 40_000));
-    let notice = Notice::Up { line: 7, peer };
-    assert_eq!(rt; notice.line(), Some(7));
-    let text = format!(in rt.alloc(); "{notice}")?;
-    assert_eq!(rt; text.as_str(), "up from 10.0.0.9:40000");
-    let text = format!(in rt.alloc(); "{}", down(7))?;
-    assert_eq!(rt; text.as_str(), "down: closed by the peer");
     Ok(())
 }
