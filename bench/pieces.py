@@ -37,24 +37,29 @@ COMMENTS_BEHIND_TABLES, PIECES_BEHIND_TABLES = (0, 64, 200), (7, 64, 4096)
 TABLES = (("tables others\nup a1\nup b1\n", 3, "b1"), ("tables others\ntables first\nup b1\nup c1\n", 4, "c1"))
 
 
+# The words that name subscriptions for lines `tables NAME`. Without them no line can bring any, and the lines are not counted.
+NAMED = ("--tables", "first=first.toml", "--tables", "others=others.toml")
+
+
 def scripts():
-    """Each script with the octets of a read, the number of its faulty line, and the name that no line has."""
-    for comments in COMMENTS:
-        for most in PIECES:
-            yield comments * COMMENT + LINES, most, comments + 4, "x9"
+    """Each script with the words that name subscriptions, the octets of a read, the number of its faulty line, and the name that no line has."""
+    for named in ((), NAMED):
+        for comments in COMMENTS:
+            for most in PIECES:
+                yield comments * COMMENT + LINES, named, most, comments + 4, "x9"
     for comments in COMMENTS_BEHIND_TABLES:
         for most in PIECES_BEHIND_TABLES:
-            yield "tables others\n" + comments * COMMENT + LINES, most, comments + 5, "x9"
+            yield "tables others\n" + comments * COMMENT + LINES, NAMED, most, comments + 5, "x9"
     for script, number, name in TABLES:
         for most in (1, 4096):
-            yield script, most, number, name
+            yield script, NAMED, most, number, name
 
 
-def replayed(program, folder, script, most):
+def replayed(program, folder, script, named, most):
     """The exit status of the replay of a script, what it prints, and what it tells."""
     (folder / "script").write_text(script)
     environment = {**os.environ, "LD_PRELOAD": str(folder / "pieces.so"), "XP_PIECE": str(most)}
-    words = [program, "replay", "first.toml", "--tables", "first=first.toml", "--tables", "others=others.toml"]
+    words = [program, "replay", "first.toml", *named]
     with open(folder / "script", "rb") as source:
         ran = subprocess.run(words, stdin=source, capture_output=True, text=True, env=environment, cwd=folder, timeout=PATIENCE)
     return ran.returncode, ran.stdout, ran.stderr
@@ -70,11 +75,11 @@ def main():
         subprocess.run(["cc", "-O2", "-shared", "-fPIC", "-o", folder / "pieces.so", HERE / "pieces.c"], check=True)
         for name, text in FILES.items():
             (folder / name).write_text(text)
-        for script, most, number, name in scripts():
+        for script, named, most, number, name in scripts():
             wanted = (2, "", f'xp: script line {number}\nno line is named "{name}"\n')
-            came = replayed(program, folder, script, most)
+            came = replayed(program, folder, script, named, most)
             if came != wanted:
-                sys.exit(f"a script of {len(script)} octets, {most} a read, ends with {came} in place of {wanted}")
+                sys.exit(f"a script of {len(script)} octets, {most} a read, {len(named)} words of tables, ends with {came} in place of {wanted}")
             count += 1
     print(f"{count} replays have told their faulty line")
     return 0

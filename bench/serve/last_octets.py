@@ -30,6 +30,10 @@ SPARE = 1_048_576 * b"x"
 # Seconds of a transfer before a stop.
 TRANSFER = 0.2
 
+# How often a line closes its connection in one segment with its last octets, and the seconds in which half of these ends are seen at most.
+# A line on which nothing is heard has a turn each half a second, so an end that waited for that would be seen later.
+ENDS, SEEN = 15, 0.1
+
 # Seconds that a stop takes, at least and at most, where peers stay.
 LEAST_SECONDS, MOST_SECONDS = 1.5, 6
 
@@ -166,6 +170,24 @@ def behind_a_bad_header(program, folder):
         require(exchange.end() == 0, f"it ended badly; {exchange.said()}")
 
 
+def with_the_last_octets(program, folder):
+    """An end that comes in one segment with the last octets of a line is seen at once."""
+    port, times = server.free_ports(1), []
+    with Served(program, folder, station("200003", ("c1", port, ""))) as exchange:
+        for _ in range(ENDS):
+            line = exchange.rise(port)
+            line.send(call_request("99"))
+            require(line.connection.recv(1, socket.MSG_PEEK), "the call is not answered")
+            line.connection.send(frame(CLEAR_CONFIRMATION), socket.MSG_MORE)
+            begun = time.monotonic()
+            line.connection.shutdown(socket.SHUT_WR)
+            require(rest_of(line.connection) == frame(NOT_OBTAINABLE), "other octets came before the end")
+            times.append(time.monotonic() - begun)
+            line.close()
+        require(sorted(times)[ENDS // 2] < SEEN, f"the ends were seen after {', '.join(f'{it:.2f}' for it in sorted(times))} seconds")
+        require(exchange.end() == 0, f"it ended badly; {exchange.said()}")
+
+
 def behind_a_clear(program, folder):
     """A router that sends much behind its clear request reads the confirmation, and then the end."""
     with Routed(program, folder) as exchange:
@@ -208,7 +230,7 @@ def main():
     stopping = functools.partial(stops, count=arguments.stops, pairs=arguments.pairs, seed=seed)
     functools.update_wrapper(stopping, stops)
     with tempfile.TemporaryDirectory() as folder:
-        run_checks((stopping, stops_of_routers, behind_a_bad_header, behind_a_clear, peers_that_stay), arguments.xp, folder)
+        run_checks((stopping, stops_of_routers, behind_a_bad_header, with_the_last_octets, behind_a_clear, peers_that_stay), arguments.xp, folder)
 
 
 if __name__ == "__main__":

@@ -6,8 +6,10 @@ ghost use Rattle.xp_keeping.specs.Queued.{AreKeptBeside, KeepsBeside, Queued};
 ghost use Rattle.xp_serve.specs.LeftAlone.{LeavesAlone};
 ghost use Rattle.xp_serve.specs.Serving.{Serves};
 
+use crate::attending::attend;
+use crate::beside::Beside;
 use crate::live::{LiveOfRun, RunBefore, begin_live_of, path_of_live};
-use crate::serving::{Beside, CopiedSubs, attend};
+use crate::serving::CopiedSubs;
 use log::Log;
 use std::alloc::AllocGlobal;
 use std::fs::{File, Files};

@@ -2,7 +2,7 @@
 
 ghost use Rattle.std.specs.Prelude.{◌≡◌, IfOk, IfSome};
 
-use crate::serving::Beside;
+use crate::beside::Beside;
 use log::Log;
 use std::alloc::{AllocError, AllocGlobal, Global};
 use std::fs::{File, Files};

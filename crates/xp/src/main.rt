@@ -3,6 +3,8 @@
 
 ghost use Rattle.std.specs.Prelude.{◌≡◌};
 
+mod attending;
+mod beside;
 mod into_file;
 mod live;
 mod served_console;

@@ -16,6 +16,13 @@ use xp_causes::diagnostic;
 use xp_facilities::{FastSelect, RequestedFacilities, parse};
 use xp_packets::{Block, Digits};
 
+/// A call accepted packet.
+#[derive(Drop)]
+pub struct CallAccepted<'a, A: Allocator = Global> {
+    pub d: bool,
+    pub block: &'a Option<Block<A>>,
+}
+
 /// The outcome of the answer to an incoming call.
 #[derive(Drop, PartialEq)]
 pub enum Answer<A: Allocator = Global> {
@@ -26,8 +33,7 @@ pub enum Answer<A: Allocator = Global> {
     Refused(u8),
 }
 
-/// Examines the answer of the line with the address `address` to a call to `dialled`. The D bit and the block are
-/// those of the call accepted packet.
+/// Examines the answer of the line with the address `address` to a call to `dialled`.
 ///
 /// The first of these faults refuses the answer: the call has restricted fast select, so that the called line may
 /// only clear it; the facility field is faulty; there is user data without fast select; a size was not offered.
@@ -40,11 +46,10 @@ pub fn examine<A: Allocator + Copy>(
     setup: &Setup,
     address: &Digits,
     dialled: &Digits,
-    d: bool,
-    block: &Option<Block<A>>,
+    accepted: &CallAccepted<'_, A>,
 ) -> Result<Answer<A>, AllocError>
     requires { AreTerms Long setup.now.indicated }
-    ensures answered { IfOk result (Answered setup.now address.now dialled.now d block.now) }
+    ensures answered { IfOk result (Answered setup.now address.now dialled.now accepted.now.d accepted.now.block.now) }
 
     // Each size of the call is between the one that was indicated and the default. So a line of modulo 8 agrees to no
     // window over 7.
@@ -52,11 +57,11 @@ pub fn examine<A: Allocator + Copy>(
         → AreTerms modulus setup.now.indicated → AreSettled modulus setup.now.indicated c.terms)) }
 
     // If there are at most 128 octets of user data, the call connected packet can be encoded.
-    ensures sent { length (user_in block.now) ≤ 128 → IfOk result (λ answer. IfConnected answer (λ c. CanBeSent c.packet)) }
+    ensures sent { length (user_in accepted.now.block.now) ≤ 128 → IfOk result (λ answer. IfConnected answer (λ c. CanBeSent c.packet)) }
 {
-    match accept(alloc, setup, block) {
+    match accept(alloc, setup, accepted.block) {
         Ok(asked) => {
-            let connection = connect(alloc, setup, address, dialled, d, block, asked)?;
+            let connection = connect(alloc, setup, address, dialled, accepted, asked)?;
             Ok(Answer::Connected(connection))
         }
         Err(AnswerFault::Refused(diagnostic)) => Ok(Answer::Refused(diagnostic)),

@@ -3,6 +3,7 @@ ghost use Rattle.xp_answer.specs.Answered.{Accepts, Connects, Names, outputs_of_
 ghost use Rattle.xp_answer.specs.Terms.{AreTerms};
 ghost use Rattle.xp_packets.specs.declared.modulus.Modulus.TheVariants.{Long};
 
+use crate::answer::CallAccepted;
 use crate::block::user_in;
 use crate::field::field_of;
 use crate::setup::Setup;
@@ -32,22 +33,21 @@ pub fn connect<A: Allocator + Copy>(
     setup: &Setup,
     address: &Digits,
     dialled: &Digits,
-    d: bool,
-    block: &Option<Block<A>>,
+    accepted: &CallAccepted<'_, A>,
     asked: RequestedFacilities<A>,
 ) -> Result<Connection<A>, AllocError>
     requires terms { AreTerms Long setup.now.indicated }
-    requires accepts { Accepts setup.now block.now asked }
-    ensures { IfOk result (Connects setup.now address.now dialled.now d block.now asked) }
+    requires accepts { Accepts setup.now accepted.now.block.now asked }
+    ensures { IfOk result (Connects setup.now address.now dialled.now accepted.now.d accepted.now.block.now asked) }
 {
     let terms = setup.indicated.settled(&asked);
     let charging = asked.charging;
     let (called, modified) = names(address, dialled, setup.reason);
     let facilities = field_of(alloc, &tell(setup, modified, asked))?;
-    let user = user_in(alloc, block)?;
+    let user = user_in(alloc, accepted.block)?;
     Ok(Connection {
         packet: Packet::Accepted {
-            d,
+            d: accepted.d,
             block: Some(Block {
                 called,
                 calling: Digits::new(),

@@ -14,7 +14,7 @@ mod laws;
 mod setup;
 mod terms;
 
-pub use answer::{Answer, examine};
+pub use answer::{Answer, CallAccepted, examine};
 pub use clear::forward_clear;
 pub use connection::Connection;
 pub use incoming::incoming_call;

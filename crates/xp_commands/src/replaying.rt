@@ -11,7 +11,7 @@ use xp_arguments::{NamedPath, ReplayForm, ReplayOrder};
 use xp_core::ReloadFault;
 use xp_exchange::ReplayFault;
 use xp_script::NamedTables;
-use xp_script_places::{KeptLines, KeptScript, refused_lines, refused_tables, wanted_at};
+use xp_script_places::{KeptLines, KeptScript, refused_lines, refused_tables, wanted_in};
 use xp_subs::Subs;
 use xp_tasks::{Task, TaskFailure, perform, subscriptions};
 use xp_transcript::{Form, tell};
@@ -136,7 +136,7 @@ fn play_script<R: AllocGlobal + Input + Print>(
 ) -> Result<(), CommandFailure> {
     let alloc = rt.alloc();
     let reader = BufReader::new(alloc, rt.reader()).map_err(|_| TaskFailure::Memory)?;
-    let mut lines = KeptLines::new(alloc, reader);
+    let mut lines = KeptLines::new(alloc, reader, !play.named.is_empty());
     let mut writer = WatchedWriter::buffered(alloc, io::writer(rt))?;
     match perform(
         alloc,
@@ -219,7 +219,10 @@ fn with_wanted(
     match fault {
         ReplayFault::Script(number) => with_reason(
             failure,
-            wanted_in(alloc, opening, play.named, script, number),
+            match script.force_at(alloc, opening, play.named, number) {
+                Ok(force) => wanted_in(alloc, &force, play.named, script, number),
+                Err(error) => Err(error),
+            },
         ),
         ReplayFault::Lay(number, tables) => refused(
             failure,
@@ -234,21 +237,6 @@ fn with_wanted(
         ),
         _ => CommandFailure::Task(failure),
     }
-}
-
-/// What was wanted at the line of this number. Empty where it is not kept.
-fn wanted_in(
-    alloc: Global,
-    opening: Subs,
-    named: &[NamedTables<'_>],
-    script: KeptScript<'_>,
-    number: u64,
-) -> Result<String, AllocError> {
-    let Some(line) = script.line(number) else {
-        return Ok(String::new(alloc));
-    };
-    let force = script.force_at(alloc, opening, named, number)?;
-    wanted_at(alloc, &force, named, line)
 }
 
 /// Why the lines of these subscriptions have no places at the line of this number.

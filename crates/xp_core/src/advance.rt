@@ -34,7 +34,6 @@ pub struct PreparedEntry<A: Allocator> {
 /// prepared stall allocates nothing.
 #[inline(always)]
 pub fn advance<A: Allocator + Copy>(
-    alloc: A,
     subs: &SubsInForce,
     machine: &mut Machine<A>,
     relays: &mut Relays<A>,
@@ -64,7 +63,7 @@ pub fn advance<A: Allocator + Copy>(
     ensures given { journal.new.given ≡ journal.old.given }
     ensures waiting { OnErr result (journal.new.waiting ≡ journal.old.waiting) }
 {
-    match prepare_entry(alloc, subs, machine, relays, journal, workspace, &event) {
+    match prepare_entry(subs, machine, relays, journal, workspace, &event) {
         Ok(work) => Ok(journal.enter(event, work, subs.in_force())),
         Err(_) => refuse_for_memory(event),
     }
@@ -82,7 +81,6 @@ fn refuse_for_memory<A: Allocator>(event: Event<A>) -> Result<Entry<A>, StepFaul
 /// Prepares all that an event needs, and changes the state last.
 #[inline(always)]
 fn prepare_entry<A: Allocator + Copy>(
-    alloc: A,
     subs: &SubsInForce,
     machine: &mut Machine<A>,
     relays: &mut Relays<A>,
@@ -113,16 +111,7 @@ fn prepare_entry<A: Allocator + Copy>(
 {
     if let Some(spare) = prepared(journal, event) {
         let before = journal.history();
-        return Ok(give_up(
-            alloc,
-            subs,
-            machine,
-            relays,
-            before,
-            spare,
-            event.line,
-            event.moment,
-        ));
+        return Ok(give_up(subs, machine, relays, before, spare, event));
     }
     let Plan {
         outcome,
@@ -131,15 +120,7 @@ fn prepare_entry<A: Allocator + Copy>(
         change,
         records,
         relay_update,
-    } = plan_of(
-        alloc,
-        subs,
-        machine,
-        relays,
-        journal.history(),
-        event,
-        workspace,
-    )?;
+    } = plan_of(subs, machine, relays, journal.history(), event, workspace)?;
     let outputs = outputs.into_outputs();
     journal.reserve(records.as_slice())?;
     machine.apply(cancelled, change)?;

@@ -27,7 +27,6 @@ use xp_subs::{LineNo, Subs};
 
 /// The exchange, which takes one event at a time.
 pub struct Core<A: Allocator = Global> {
-    alloc: A,
     subs: SubsInForce,
     machine: Machine<A>,
     relays: Relays<A>,
@@ -38,7 +37,6 @@ pub struct Core<A: Allocator = Global> {
 impl<A: Allocator> Drop for Core<A> {
     fn drop(self) {
         let Core {
-            alloc: _,
             subs: _,
             machine: _,
             relays: _,
@@ -83,7 +81,6 @@ impl<A: Allocator + Copy> Core<A> {
             reloaded: None,
         };
         Ok(Core {
-            alloc,
             subs,
             machine,
             relays,
@@ -122,14 +119,13 @@ impl<A: Allocator + Copy> Core<A> {
             return refuse_for_places(event);
         }
         let Core {
-            alloc,
             subs,
             machine,
             relays,
             journal,
             workspace,
         } = self;
-        advance(*alloc, subs, machine, relays, journal, workspace, event)
+        advance(subs, machine, relays, journal, workspace, event)
     }
 
     /// Puts other subscriptions into force at this moment, and returns the entry of that. From then on call requests are
@@ -151,14 +147,13 @@ impl<A: Allocator + Copy> Core<A> {
         ensures err { OnErr result (self.new ≡ self.old) }
     {
         let Core {
-            alloc,
             subs: in_force,
             machine,
             relays: _,
             journal,
-            workspace: _,
+            workspace,
         } = self;
-        reload(*alloc, in_force, machine, journal, subs, moment)
+        reload(workspace.alloc, in_force, machine, journal, subs, moment)
     }
 
     /// Hands over the charging records that wait: those of the calls that ended since the last time, in the order in which
@@ -174,7 +169,12 @@ impl<A: Allocator + Copy> Core<A> {
         ensures lines { IfOk result (λ taken. All (NamesLines (line_count self.old.subs)) taken.items) }
         ensures err { OnErr result (self.new ≡ self.old) }
     {
-        self.journal.take_records(self.alloc)
+        let Core {
+            journal,
+            workspace,
+            ..
+        } = self;
+        journal.take_records(workspace.alloc)
     }
 
     /// Hands over the charging records that wait, behind those that were taken. It allocates nothing.
@@ -195,12 +195,17 @@ impl<A: Allocator + Copy> Core<A> {
         ensures more { self.old.stalls ≤ self.new.stalls }
         ensures rest { self.new ≡ record self.old { stalls = self.new.stalls } }
     {
-        self.journal.prepare_stalls(self.alloc, count)
+        let Core {
+            journal,
+            workspace,
+            ..
+        } = self;
+        journal.prepare_stalls(workspace.alloc, count)
     }
 
     /// Returns the allocator of what it gives and keeps.
     pub fn allocator(&self) -> A {
-        self.alloc
+        self.workspace.alloc
     }
 
     /// Returns the lines that must be given up before these subscriptions can come into force, the lowest first: they are in
@@ -209,7 +214,7 @@ impl<A: Allocator + Copy> Core<A> {
         requires { line_count next.now ≡ line_count self.now.subs }
         ensures { IfOk result (λ lines. AreGoingFrom self.now next.now lines.items) }
     {
-        going(self.alloc, self.in_force(), &self.machine, next)
+        going(self.workspace.alloc, self.in_force(), &self.machine, next)
     }
 }
 

@@ -26,9 +26,8 @@ use xp_causes::diagnostic::NO_ADDITIONAL_INFORMATION;
 use xp_machine::{ChannelState, Machine, NoCallState, Relays};
 use xp_past::Past;
 use xp_step::{
-    Buffer, Entry, EventLine, Outcome, Outputs, Records, SubsInForce, charged_on, close,
+    Buffer, Entry, Event, EventLine, Outcome, Outputs, Records, SubsInForce, charged_on, close,
 };
-use xp_subs::LineNo;
 
 /// How many outputs a stall has at most: one closes the line's connection, and one clears the far end of its call.
 const MOST_OUTPUTS: usize = 2;
@@ -36,6 +35,7 @@ const MOST_OUTPUTS: usize = 2;
 /// Room for what one stall puts out, and for the record of the call that ends.
 #[derive(Drop)]
 pub struct Spare<A: Allocator> {
+    alloc: A,
     outputs: Buffer<A>,
     records: Records<A>,
 }
@@ -53,35 +53,34 @@ impl<A: Allocator> Model for Spare<A> {
 impl<A: Allocator + Copy> Spare<A> {
     pub fn new(alloc: A) -> Result<Spare<A>, AllocError> {
         Ok(Spare {
+            alloc,
             outputs: Buffer::with_room(alloc, MOST_OUTPUTS)?,
             records: Records::with_room(alloc, 1)?,
         })
     }
 }
 
-/// Gives a line up at this moment. If the line is out of service already, it stays so, and nothing is put out.
+/// Gives the line of a stall up at its moment. If the line is out of service already, it stays so, and nothing is put out.
 #[cold]
 #[inline(never)]
 pub fn give_up<A: Allocator + Copy>(
-    alloc: A,
     subs: &SubsInForce,
     machine: &mut Machine<A>,
     relays: &Relays<A>,
     before: &Past<Entry<A>>,
     spare: Spare<A>,
-    line: LineNo,
-    moment: u64,
+    event: &Event<A>,
 ) -> PreparedEntry<A>
     requires sound { IsSound subs.now.opening }
     requires carried { RelaysRepresentCalls subs.now.opening before.now.items machine.old relays.now }
-    ensures makes { MakesStall (step_context subs.now.opening before.now.items machine.old line moment) result machine.new }
+    ensures makes { MakesStall (step_context subs.now.opening before.now.items machine.old event.now.line event.now.moment) result machine.new }
     ensures one { length result.records.items ≤ 1 }
 {
-    if is_off(machine.line(line).state) {
+    if is_off(machine.line(event.line).state) {
         return unused(spare);
     }
-    let work = fall(alloc, subs, machine, relays, before, spare, line, moment);
-    machine.go_out(line);
+    let work = fall(subs, machine, relays, before, spare, event);
+    machine.go_out(event.line);
     work
 }
 
@@ -98,7 +97,11 @@ fn unused<A: Allocator>(spare: Spare<A>) -> PreparedEntry<A>
     ensures outputs { result.outputs ≡ [] }
     ensures records { result.records.items ≡ [] }
 {
-    let Spare { outputs, records } = spare;
+    let Spare {
+        alloc: _,
+        outputs,
+        records,
+    } = spare;
     PreparedEntry {
         outcome: Outcome::Plain,
         outputs: outputs.into_outputs(),
@@ -108,31 +111,32 @@ fn unused<A: Allocator>(spare: Spare<A>) -> PreparedEntry<A>
 
 /// Prepares the entry of a line in service that goes out of it.
 fn fall<A: Allocator + Copy>(
-    alloc: A,
     subs: &SubsInForce,
     machine: &Machine<A>,
     relays: &Relays<A>,
     before: &Past<Entry<A>>,
     spare: Spare<A>,
-    line: LineNo,
-    moment: u64,
+    event: &Event<A>,
 ) -> PreparedEntry<A>
     requires sound { IsSound subs.now.opening }
     requires carried { RelaysRepresentCalls subs.now.opening before.now.items machine.now relays.now }
-    ensures fallen { IsFallen (step_context subs.now.opening before.now.items machine.now line moment) result }
+    ensures fallen { IsFallen (step_context subs.now.opening before.now.items machine.now event.now.line event.now.moment) result }
     ensures one { length result.records.items ≤ 1 }
 {
-    let opening = &subs.opening;
-    let charged = charged_on(opening, machine, relays, before, line);
+    let (opening, line) = (&subs.opening, event.line);
     let found = EventLine {
         subs: opening,
         in_force: subs.in_force(),
         machine,
         line,
-        moment,
-        charged,
+        moment: event.moment,
+        charged: charged_on(opening, machine, relays, before, line),
     };
-    let Spare { outputs, records } = spare;
+    let Spare {
+        alloc,
+        outputs,
+        records,
+    } = spare;
     let outputs = tell(alloc, outputs, &found);
     let records = charge(records, &found);
     PreparedEntry {

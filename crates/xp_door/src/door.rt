@@ -28,15 +28,21 @@ const MOST_TAKEN: usize = 16;
 /// How long the thread sleeps at most, in milliseconds.
 const LONGEST_SLEEP: u64 = 500;
 
+/// What the thread of the door waits on.
+#[derive(Drop)]
+pub struct DoorWaits {
+    pub poll: Poll,
+    /// Room for what the thread was woken by, which is not looked at.
+    pub events: Events,
+}
+
 /// The door of the lines behind routers: it listens at one TCP port for all routers, where a line is behind one. A connection waits
 /// with it until its first frame is whole, and is then given to a line behind the router that it comes from. It begins the connections
 /// to routers that lines wait for. It waits for no line and no router.
 pub struct Door {
     alloc: Global,
     doorway: Arc<Doorway>,
-    poll: Poll,
-    /// Room for what the thread was woken by, which is not looked at.
-    events: Events,
+    waits: DoorWaits,
     /// All lines, in order.
     lines: Vec<Arc<RouterLine>>,
     /// Room for the numbers of the lines for which the bell was rung.
@@ -54,8 +60,7 @@ impl Drop for Door {
         let Door {
             alloc: _,
             doorway,
-            poll: _,
-            events: _,
+            waits: _,
             lines: _,
             wanted: _,
             callers: _,
@@ -69,12 +74,11 @@ impl Drop for Door {
 }
 
 impl Door {
-    /// The door of all lines, in order, whose thread waits on these sockets.
+    /// The door of all lines, in order, whose thread waits on this.
     pub fn new(
         alloc: Global,
         doorway: Arc<Doorway>,
-        poll: Poll,
-        events: Events,
+        waits: DoorWaits,
         lines: Vec<Arc<RouterLine>>,
         wakers: Arc<Vec<LineWaker>>,
         notices: Arc<Notices>,
@@ -83,8 +87,7 @@ impl Door {
         Ok(Door {
             alloc,
             doorway,
-            poll,
-            events,
+            waits,
             lines,
             wanted,
             callers: Callers::new(alloc),
@@ -120,7 +123,7 @@ impl Door {
     fn sleep(&mut self) {
         let most = Duration::from_millis(LONGEST_SLEEP);
         // Where the wait fails, the turn that follows finds nothing, and the thread waits again.
-        let _ = self.poll.poll(&mut self.events, Some(most));
+        let _ = self.waits.poll.poll(&mut self.waits.events, Some(most));
     }
 
     /// Begins the connections that lines wait for, if the bell was rung.
@@ -192,7 +195,7 @@ impl Door {
             return;
         }
         let now = uptime().unwrap_or(Duration::MAX);
-        if let Err(notice) = self.callers.admit(self.poll.registry(), arrival, now) {
+        if let Err(notice) = self.callers.admit(self.waits.poll.registry(), arrival, now) {
             self.notices.tell(notice);
         }
     }
@@ -205,7 +208,7 @@ impl Door {
         }
         let now = uptime().unwrap_or(Duration::MAX);
         for _caller in 0..count {
-            match self.callers.hear(self.poll.registry(), now) {
+            match self.callers.hear(self.waits.poll.registry(), now) {
                 Heard::Nothing => {}
                 Heard::Call(arrival, call) => self.give(rt, arrival, call),
                 Heard::Closed(notice) => self.notices.tell(notice),
@@ -237,7 +240,8 @@ impl Door {
         };
         if let Some(frame) = call.refusal(self.alloc, refusal) {
             let now = uptime().unwrap_or(Duration::MAX);
-            self.refused.add(self.poll.registry(), stream, &frame, now);
+            self.refused
+                .add(self.waits.poll.registry(), stream, &frame, now);
         }
     }
 

@@ -34,7 +34,7 @@ pub use calls::{AskedCall, CallNotes, ClearedCall, after_received, after_sent, t
 pub use choosing::{Caller, CallerRule, Candidate, Choice, choose, is_router, line_for};
 pub use connect_fault::ConnectFault;
 pub use dialled::Dialled;
-pub use door::Door;
+pub use door::{Door, DoorWaits};
 pub use door_bell::DoorBell;
 pub use doorway::Doorway;
 pub use down_reason::DownReason;

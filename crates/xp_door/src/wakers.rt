@@ -64,6 +64,8 @@ pub struct LineWaker {
     busy: AtomicBool,
     /// All octets that were there are read.
     emptied: AtomicBool,
+    /// The peer sends no more octets: behind those that are there a read finds their end.
+    closing: AtomicBool,
     /// Connections may have come to the line's own port.
     knocked: AtomicBool,
     /// It was told that the line has a connection, and not yet that it has none.
@@ -80,6 +82,7 @@ impl LineWaker {
             has_work: AtomicBool::new(false),
             busy: AtomicBool::new(true),
             emptied: AtomicBool::new(false),
+            closing: AtomicBool::new(false),
             knocked: AtomicBool::new(false),
             is_told: AtomicBool::new(false),
         }
@@ -126,9 +129,22 @@ impl LineWaker {
         self.emptied.load(SeqCst)
     }
 
-    /// A read of the line's thread left no octets.
+    /// A read of the line's thread left no octets. Where their end has come, the next one is to find it.
     pub fn empty(&self) {
-        self.emptied.store(true, SeqCst);
+        if !self.closing.load(SeqCst) {
+            self.emptied.store(true, SeqCst);
+        }
+    }
+
+    /// The line has another connection.
+    pub fn begin_connection(&self) {
+        self.closing.store(false, SeqCst);
+        self.refill();
+    }
+
+    /// The peer of the line's connection sends no more octets.
+    pub fn note_end(&self) {
+        self.closing.store(true, SeqCst);
     }
 
     /// Octets may have come, or their end.

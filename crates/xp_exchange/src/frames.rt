@@ -11,27 +11,37 @@ use xp_packets::{Modulus, PacketFault, decode};
 use xp_step::{Event, What};
 use xp_subs::LineNo;
 
-/// Fills the queue with the events of octets that come in on a line of this modulus at this moment: one for each frame,
-/// and that the line goes down if a bad header follows the frames. After a bad header the stream begins anew.
+/// On which line octets come in, and when.
+#[derive(Clone, Copy)]
+pub struct Arrival {
+    pub line: LineNo,
+    pub modulus: Modulus,
+    /// The moment, in seconds.
+    pub moment: u64,
+}
+
+/// Fills the queue with the events of octets that arrive so: one for each frame, and that the line goes down if a bad header
+/// follows the frames. After a bad header the stream begins anew.
 pub fn read_events<A: Allocator + Copy>(
     alloc: A,
-    modulus: Modulus,
-    line: LineNo,
-    moment: u64,
+    arrival: Arrival,
     stream: &mut Deframer<A>,
     octets: &[u8],
     events: &mut VecDeque<Event<A>, A>,
 ) -> Result<(), AllocError>
     requires { IsBetweenFrames stream.old }
-    ensures heard { OnOk result (ReadsEvents modulus line moment stream.old.rest octets.now events.new.items stream.new.rest) }
+    ensures heard { OnOk result (ReadsEvents arrival.modulus arrival.line arrival.moment stream.old.rest octets.now events.new.items stream.new.rest) }
     ensures between { OnOk result (IsBetweenFrames stream.new) }
-    ensures fit { OnOk result (All (λ event. (event.line ≡ line) × CanCome event.what) events.new.items) }
+    ensures fit { OnOk result (All (λ event. (event.line ≡ arrival.line) × CanCome event.what) events.new.items) }
 {
     let fails = fails_with(stream, octets)?;
-    read_all(alloc, modulus, line, moment, stream, events)?;
+    read_all(alloc, arrival, stream, events)?;
     if fails {
-        let what = What::Down;
-        events.push_back(Event { line, moment, what })?;
+        events.push_back(Event {
+            line: arrival.line,
+            moment: arrival.moment,
+            what: What::Down,
+        })?;
         *stream = Deframer::new(alloc);
     }
     Ok(())
@@ -55,43 +65,53 @@ fn fails_with<A: Allocator + Copy>(
 /// Takes the packets that wait off the stream, and fills the queue with their events.
 fn read_all<A: Allocator + Copy>(
     alloc: A,
-    modulus: Modulus,
-    line: LineNo,
-    moment: u64,
+    arrival: Arrival,
     stream: &mut Deframer<A>,
     events: &mut VecDeque<Event<A>, A>,
 ) -> Result<(), AllocError>
-    ensures read { OnOk result (AreRead modulus line moment stream.old.waiting events.new.items) }
-    ensures fit { OnOk result (All (λ event. (event.line ≡ line) × CanCome event.what) events.new.items) }
+    ensures read { OnOk result (AreRead arrival.modulus arrival.line arrival.moment stream.old.waiting events.new.items) }
+    ensures fit { OnOk result (All (λ event. (event.line ≡ arrival.line) × CanCome event.what) events.new.items) }
     ensures stream { OnOk result (stream.new ≡ emptied stream.old) }
 {
-    events.clear();
+    empty(events);
     while let Some(packet) = stream.next() {
-        let event = event_of(alloc, modulus, line, moment, &packet)?;
+        let event = event_of(alloc, arrival, &packet)?;
         events.push_back(event)?;
         stream.reuse(packet);
     }
     Ok(())
 }
 
-/// Returns the event of one frame of a line of this modulus, which holds these octets. They are a packet or they are
-/// none.
+/// Empties a queue. Nearly always it is empty, and then nothing is called.
+#[inline(always)]
+fn empty<A: Allocator>(events: &mut VecDeque<Event<A>, A>)
+    ensures { events.new.items ≡ [] }
+{
+    if events.is_empty() {
+        return;
+    }
+    events.clear();
+}
+
+/// Returns the event of one frame that arrives so, which holds these octets. They are a packet or they are none.
 fn event_of<A: Allocator + Copy>(
     alloc: A,
-    modulus: Modulus,
-    line: LineNo,
-    moment: u64,
+    arrival: Arrival,
     octets: &[u8],
 ) -> Result<Event<A>, AllocError>
-    ensures line { IfOk result (λ event. event.line ≡ line) }
-    ensures moment { IfOk result (λ event. event.moment ≡ moment) }
-    ensures read { IfOk result (λ event. IsReadAs modulus octets.now event.what) }
+    ensures line { IfOk result (λ event. event.line ≡ arrival.line) }
+    ensures moment { IfOk result (λ event. event.moment ≡ arrival.moment) }
+    ensures read { IfOk result (λ event. IsReadAs arrival.modulus octets.now event.what) }
     ensures fit { IfOk result (λ event. CanCome event.what) }
 {
-    let what = match decode(alloc, modulus, octets) {
+    let what = match decode(alloc, arrival.modulus, octets) {
         Ok((identifier, packet)) => What::frame(identifier, packet),
         Err(PacketFault::Malformed(wrong)) => What::WrongFrame(wrong),
         Err(PacketFault::Memory) => return Err(AllocError),
     };
-    Ok(Event { line, moment, what })
+    Ok(Event {
+        line: arrival.line,
+        moment: arrival.moment,
+        what,
+    })
 }

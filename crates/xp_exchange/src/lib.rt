@@ -4,6 +4,7 @@
 mod acting;
 mod fault;
 mod frames;
+mod line_reader;
 mod next_tables;
 mod playing;
 mod reloading;

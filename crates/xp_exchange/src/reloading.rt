@@ -122,7 +122,8 @@ fn lay<A: Allocator + Copy>(
             Err(fault) => Err(ReplayFault::Reload(number, tables, fault)),
         },
         Err(LayFault::Memory) => Err(ReplayFault::Memory),
-        Err(LayFault::Modulus(_) | LayFault::Place(_)) => Err(ReplayFault::Lay(number, tables)),
+        Err(LayFault::Modulus(_)) => Err(ReplayFault::Lay(number, tables)),
+        Err(LayFault::Place(_)) => Err(ReplayFault::Lay(number, tables)),
     }
 }
 

@@ -4,12 +4,11 @@ ghost use Rattle.std.specs.Prelude.{◌≡◌, ◌<◌, [], All, IfOk, OnOk, len
 ghost use Rattle.xp_exchange.specs.FrameEvents.{CanCome, ReadsEvents};
 ghost use Rattle.xp_exchange.specs.Play.{unfinished_at};
 
-use crate::frames::read_events;
+use crate::frames::{Arrival, read_events};
 use std::alloc::{AllocError, Allocator, Global};
 use std::collections::VecDeque;
 use std::marker::Model;
 use xp_frames::Deframer;
-use xp_packets::Modulus;
 use xp_step::Event;
 use xp_subs::LineNo;
 
@@ -51,26 +50,23 @@ impl<A: Allocator + Copy> Streams<A> {
         self.streams[usize::from(line)] = Deframer::new(self.alloc);
     }
 
-    /// Fills the queue with the events of octets that come in on a line of this modulus at this moment: one for each
-    /// frame, and that the line goes down if a bad header follows the frames.
+    /// Fills the queue with the events of octets that arrive so: one for each frame, and that the line goes down if a bad
+    /// header follows the frames.
+    #[inline(always)]
     pub fn read_events(
         &mut self,
-        modulus: Modulus,
-        line: LineNo,
-        moment: u64,
+        arrival: Arrival,
         octets: &[u8],
         events: &mut VecDeque<Event<A>, A>,
     ) -> Result<(), AllocError>
-        requires { line < length self.old }
-        ensures heard { OnOk result (ReadsEvents modulus line moment (unfinished_at self.old line) octets.now events.new.items (unfinished_at self.new line)) }
-        ensures kept { OnOk result (self.new ≡ slice_set self.old line (unfinished_at self.new line)) }
+        requires { arrival.line < length self.old }
+        ensures heard { OnOk result (ReadsEvents arrival.modulus arrival.line arrival.moment (unfinished_at self.old arrival.line) octets.now events.new.items (unfinished_at self.new arrival.line)) }
+        ensures kept { OnOk result (self.new ≡ slice_set self.old arrival.line (unfinished_at self.new arrival.line)) }
         ensures lines { length self.new ≡ length self.old }
-        ensures fit { OnOk result (All (λ event. (event.line ≡ line) × CanCome event.what) events.new.items) }
+        ensures fit { OnOk result (All (λ event. (event.line ≡ arrival.line) × CanCome event.what) events.new.items) }
     {
-        let stream = &mut self.streams[usize::from(line)];
-        if let Err(refused) = read_events(
-            self.alloc, modulus, line, moment, stream, octets, events,
-        ) {
+        let stream = &mut self.streams[usize::from(arrival.line)];
+        if let Err(refused) = read_events(self.alloc, arrival, stream, octets, events) {
             // Without memory, packets may still wait in the stream.
             *stream = Deframer::new(self.alloc);
             return Err(refused);

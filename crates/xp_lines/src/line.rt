@@ -61,7 +61,6 @@ pub(crate) struct Step<L: Link, A: Allocator> {
 /// One turn of a line, on its link if it has one.
 pub(crate) fn have_turn<N: Name, P: Port, C: Clock, A: Allocator + Copy, R: Wait>(
     rt: &R,
-    alloc: A,
     shared: &Shared<'_, N, A>,
     seat: &mut Seat<N, C, A>,
     port: &mut P,
@@ -72,7 +71,7 @@ pub(crate) fn have_turn<N: Name, P: Port, C: Clock, A: Allocator + Copy, R: Wait
 {
     match session {
         Some(linked) => go_on(rt, shared, seat, linked),
-        None => connect(rt, alloc, shared, seat, port),
+        None => connect(rt, shared, seat, port),
     }
 }
 
@@ -108,7 +107,6 @@ fn go_on<N: Name, L: Link, C: Clock, A: Allocator + Copy, R: Wait>(
 /// A turn without a link: it takes the next link from the port, if one has come.
 fn connect<N: Name, P: Port, C: Clock, A: Allocator + Copy, R: Wait>(
     rt: &R,
-    alloc: A,
     shared: &Shared<'_, N, A>,
     seat: &mut Seat<N, C, A>,
     port: &mut P,
@@ -122,7 +120,7 @@ fn connect<N: Name, P: Port, C: Clock, A: Allocator + Copy, R: Wait>(
     match port.next() {
         Arrived::Came(link) => {
             drain(rt, shared, seat);
-            come_up(rt, alloc, shared, seat, link)
+            come_up(rt, shared, seat, link)
         }
         Arrived::Nothing => {
             seat.clock.idle();
@@ -157,7 +155,6 @@ fn drain<N: Name, C: Clock, A: Allocator + Copy, R: Wait>(
 /// Offers that a link came. If the exchange refuses that, the link is dropped.
 fn come_up<N: Name, L: Link, C: Clock, A: Allocator + Copy, R: Wait>(
     rt: &R,
-    alloc: A,
     shared: &Shared<'_, N, A>,
     seat: &mut Seat<N, C, A>,
     link: L,
@@ -172,8 +169,8 @@ fn come_up<N: Name, L: Link, C: Clock, A: Allocator + Copy, R: Wait>(
                 link,
                 connection: done.connection(),
                 owes_down: false,
-                frames: Deframer::new(alloc),
-                unwritten: Vec::new(alloc),
+                frames: Deframer::new(shared.alloc),
+                unwritten: Vec::new(shared.alloc),
                 unanswered_since: None,
             }),
             end: None,

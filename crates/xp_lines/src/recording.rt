@@ -7,18 +7,17 @@ ghost use Rattle.xp_subs.specs.Tables.{Tables, line_count};
 
 use crate::shared::Shared;
 use crate::signals::Signals;
-use std::alloc::Global;
 use std::sync::Wait;
 use xp_charge::Record;
-use xp_lock::{Exchange, Look, ReloadRefusal};
+use xp_lock::{Look, ReloadRefusal};
 use xp_seats::{Name, Recorder};
 use xp_sink::{NextSubs, NotInForce, Received, RecordSink};
 
-/// The recorder of an exchange, and the sink that its records were handed to.
+/// The way of charging records: the recorder that takes them from the exchange, and the sink that they are handed to.
 #[derive(Drop)]
-pub(crate) struct Recorded<N: Name, S: RecordSink> {
-    pub(crate) recorder: Recorder<N>,
-    pub(crate) sink: S,
+pub struct RecordPath<N: Name, S: RecordSink> {
+    pub recorder: Recorder<N>,
+    pub sink: S,
 }
 
 /// Hands charging records to the sink as calls end, until all lines have ended, and lets the sink do what it does from time to
@@ -27,30 +26,29 @@ pub(crate) struct Recorded<N: Name, S: RecordSink> {
 /// end stay with the exchange.
 pub(crate) fn keep_recording<N: Name, S: RecordSink, R: Wait>(
     rt: &R,
-    alloc: Global,
     shared: &Shared<'_, N>,
-    recorder: Recorder<N>,
-    sink: S,
-) -> Recorded<N, S>
-    requires lines { S.lines sink ≡ line_count N.subs }
-    requires tables { S.tables sink ≡ N.subs }
-    requires received { S.received sink ≡ recorder.received }
-    ensures { HandsOn S.received S.keeps recorder sink result.recorder result.sink }
+    path: RecordPath<N, S>,
+) -> RecordPath<N, S>
+    requires lines { S.lines path.sink ≡ line_count N.subs }
+    requires tables { S.tables path.sink ≡ N.subs }
+    requires received { S.received path.sink ≡ path.recorder.received }
+    ensures { HandsOn S.received S.keeps path.recorder path.sink result.recorder result.sink }
 {
-    let Shared { exchange, signals } = shared;
+    let signals = shared.signals;
+    let RecordPath { recorder, sink } = path;
     let mut recorder = recorder;
     let mut sink = sink;
     for _ in rt.forever() {
         let ended = signals.all_ended();
-        let handed = hand_over(rt, alloc, exchange, &mut recorder, &mut sink);
+        let handed = hand_over(rt, shared, &mut recorder, &mut sink);
         if signals.records_handed_on(recorder.received_count()) {
-            exchange.halt(rt);
+            shared.exchange.halt(rt);
         }
         stop_at(signals, handed);
         let ticked = sink.tick();
         stop_at(signals, ticked);
         if ended {
-            return Recorded { recorder, sink };
+            return RecordPath { recorder, sink };
         }
         signals.wait(rt);
     }
@@ -69,8 +67,7 @@ fn stop_at(signals: &Signals, received: Received) {
 /// if they can. Else it sees the exchange, where it wants to. If no memory can be had for the records, they wait.
 fn hand_over<N: Name, S: RecordSink, R: Wait>(
     rt: &R,
-    alloc: Global,
-    exchange: &Exchange<N>,
+    shared: &Shared<'_, N>,
     recorder: &mut Recorder<N>,
     sink: &mut S,
 ) -> Received
@@ -82,8 +79,8 @@ fn hand_over<N: Name, S: RecordSink, R: Wait>(
     ensures hands { HandsOn S.received S.keeps recorder.old sink.old recorder.new sink.new }
 {
     match sink.next_subs() {
-        Some(next) => reload(rt, alloc, exchange, recorder, sink, next),
-        None => hand_on(rt, alloc, exchange, recorder, sink),
+        Some(next) => reload(rt, shared, recorder, sink, next),
+        None => hand_on(rt, shared, recorder, sink),
     }
 }
 
@@ -91,8 +88,7 @@ fn hand_over<N: Name, S: RecordSink, R: Wait>(
 /// also as lines were given up, and then is told that. Where they are refused it is told why, and the records are handed on as ever.
 fn reload<N: Name, S: RecordSink, R: Wait>(
     rt: &R,
-    alloc: Global,
-    exchange: &Exchange<N>,
+    shared: &Shared<'_, N>,
     recorder: &mut Recorder<N>,
     sink: &mut S,
     next: NextSubs,
@@ -107,7 +103,7 @@ fn reload<N: Name, S: RecordSink, R: Wait>(
 {
     let NextSubs { subs, moment } = next;
     // The lock is free again before the sink is given anything.
-    let outcome = exchange.lock(rt).reload(rt, recorder, subs, moment);
+    let outcome = shared.exchange.lock(rt).reload(rt, recorder, subs, moment);
     match outcome {
         Ok(records) => {
             let received = give(sink, records);
@@ -116,7 +112,7 @@ fn reload<N: Name, S: RecordSink, R: Wait>(
         }
         Err(refusal) => {
             sink.reloaded(Err(reason_of(refusal)));
-            hand_on(rt, alloc, exchange, recorder, sink)
+            hand_on(rt, shared, recorder, sink)
         }
     }
 }
@@ -133,8 +129,7 @@ fn reason_of(refusal: ReloadRefusal) -> NotInForce {
 /// Hands the records of the calls that have ended since to the sink, and lets it see the exchange where it wants that.
 fn hand_on<N: Name, S: RecordSink, R: Wait>(
     rt: &R,
-    alloc: Global,
-    exchange: &Exchange<N>,
+    shared: &Shared<'_, N>,
     recorder: &mut Recorder<N>,
     sink: &mut S,
 ) -> Received
@@ -146,16 +141,16 @@ fn hand_on<N: Name, S: RecordSink, R: Wait>(
     ensures hands { HandsOn S.received S.keeps recorder.old sink.old recorder.new sink.new }
 {
     if sink.wants_look() {
-        show(rt, alloc, exchange, recorder, sink)
+        show(rt, shared, recorder, sink)
     } else {
-        hand_records(rt, exchange, recorder, sink)
+        hand_records(rt, shared, recorder, sink)
     }
 }
 
 /// Hands the records of the calls that have ended since to the sink.
 fn hand_records<N: Name, S: RecordSink, R: Wait>(
     rt: &R,
-    exchange: &Exchange<N>,
+    shared: &Shared<'_, N>,
     recorder: &mut Recorder<N>,
     sink: &mut S,
 ) -> Received
@@ -166,7 +161,7 @@ fn hand_records<N: Name, S: RecordSink, R: Wait>(
     ensures tables { S.tables sink.new ≡ S.tables sink.old }
     ensures hands { HandsOn S.received S.keeps recorder.old sink.old recorder.new sink.new }
 {
-    let Ok(records) = exchange.lock(rt).take_records(recorder) else {
+    let Ok(records) = shared.exchange.lock(rt).take_records(recorder) else {
         return Received::GoesOn;
     };
     give(sink, records)
@@ -175,8 +170,7 @@ fn hand_records<N: Name, S: RecordSink, R: Wait>(
 /// Hands the records of the calls that have ended since to the sink, and then shows it the exchange as it was when they were taken.
 fn show<N: Name, S: RecordSink, R: Wait>(
     rt: &R,
-    alloc: Global,
-    exchange: &Exchange<N>,
+    shared: &Shared<'_, N>,
     recorder: &mut Recorder<N>,
     sink: &mut S,
 ) -> Received
@@ -187,7 +181,7 @@ fn show<N: Name, S: RecordSink, R: Wait>(
     ensures tables { S.tables sink.new ≡ S.tables sink.old }
     ensures hands { HandsOn S.received S.keeps recorder.old sink.old recorder.new sink.new }
 {
-    let Ok(look) = exchange.lock(rt).look(alloc, recorder) else {
+    let Ok(look) = shared.exchange.lock(rt).look(shared.alloc, recorder) else {
         return Received::GoesOn;
     };
     let Look { records, view } = look;

@@ -5,7 +5,6 @@ ghost use Rattle.std.specs.Prelude.{◌≡◌};
 use crate::line::EndReason;
 use crate::served_line::ServedLine;
 use crate::shared::Shared;
-use std::alloc::Global;
 use std::sync::Wait;
 use xp_links::{Clock, Patience, Poller, Port};
 use xp_seats::Name;
@@ -19,7 +18,7 @@ const MOST_SECONDS: u64 = 5;
 /// How often they write in that time at most, since a clock may stand still.
 const MOST_WRITES: u32 = 10_000;
 
-/// Serves the lines of a thread for at most so many rounds: in each, every line that is due has a turn. It halts the exchange where
+/// Serves the lines of a thread, for as many rounds as the limits say at most: in each, every line that is due has a turn. It halts the exchange where
 /// the journal is full. It tells the recording thread of the records that were made, and that the lines have ended.
 ///
 /// At the end each line offers the Down of a link that is still there. Where an allocation fails, lines that were asked to stop
@@ -27,17 +26,15 @@ const MOST_WRITES: u32 = 10_000;
 /// at most 5 seconds, and only then drop them.
 pub(crate) fn serve_lines<N: Name, P: Port, C: Clock, T: Poller, R: Wait>(
     rt: &R,
-    alloc: Global,
     shared: &Shared<'_, N>,
     lines: Vec<ServedLine<N, P, C>>,
     poller: T,
-    rounds: u64,
 ) -> Vec<ServedLine<N, P, C>>
     ensures { result.items ≡ lines.items }
 {
     let mut lines = lines;
     let mut poller = poller;
-    have_rounds(rt, alloc, shared, &mut lines, &mut poller, rounds);
+    have_rounds(rt, shared, &mut lines, &mut poller);
     if shared.signals.is_stopping() {
         stop_all(rt, shared, &mut lines, &mut poller);
         write_all(rt, shared, &mut lines, &mut poller);
@@ -48,23 +45,21 @@ pub(crate) fn serve_lines<N: Name, P: Port, C: Clock, T: Poller, R: Wait>(
     lines
 }
 
-/// Has rounds of turns, until there were so many, the lines are to stop, or all have ended.
+/// Has rounds of turns, until there were as many as the limits say, the lines are to stop, or all have ended.
 fn have_rounds<N: Name, P: Port, C: Clock, T: Poller, R: Wait>(
     rt: &R,
-    alloc: Global,
     shared: &Shared<'_, N>,
     lines: &mut Vec<ServedLine<N, P, C>>,
     poller: &mut T,
-    rounds: u64,
 )
     ensures { lines.new.items ≡ lines.old.items }
 {
     let mut open = lines.len();
-    for _round in 0..rounds {
+    for _round in 0..shared.signals.most_rounds() {
         if open == 0 || shared.signals.is_stopping() {
             return;
         }
-        let round = have_round(rt, alloc, shared, lines, poller);
+        let round = have_round(rt, shared, lines, poller);
         open = open.saturating_sub(round.ended);
         if open > 0 {
             poller.poll(round.patience());
@@ -95,7 +90,6 @@ impl Round {
 /// A turn of each line that is due.
 fn have_round<N: Name, P: Port, C: Clock, T: Poller, R: Wait>(
     rt: &R,
-    alloc: Global,
     shared: &Shared<'_, N>,
     lines: &mut Vec<ServedLine<N, P, C>>,
     poller: &mut T,
@@ -109,7 +103,7 @@ fn have_round<N: Name, P: Port, C: Clock, T: Poller, R: Wait>(
             return Round { ended, is_held };
         };
         if let Some(line) = lines.get_mut(place) {
-            let has_ended = have_turn(rt, alloc, shared, line);
+            let has_ended = have_turn(rt, shared, line);
             ended = ended.saturating_add(usize::from(has_ended));
             if line.is_held() {
                 poller.hold(place);
@@ -123,14 +117,13 @@ fn have_round<N: Name, P: Port, C: Clock, T: Poller, R: Wait>(
 /// A turn of a line. Returns whether it has ended in it.
 fn have_turn<N: Name, P: Port, C: Clock, R: Wait>(
     rt: &R,
-    alloc: Global,
     shared: &Shared<'_, N>,
     line: &mut ServedLine<N, P, C>,
 ) -> bool
     ensures { line.new ≡ line.old }
 {
     let was_open = line.is_open();
-    line.have_turn(rt, alloc, shared);
+    line.have_turn(rt, shared);
     was_open && !line.is_open()
 }
 

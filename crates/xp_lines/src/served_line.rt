@@ -11,7 +11,6 @@ use crate::seat::Seat;
 use crate::session::Session;
 use crate::shared::Shared;
 use crate::signals::Signals;
-use std::alloc::Global;
 use std::marker::Model;
 use std::mem;
 use std::sync::Wait;
@@ -110,7 +109,7 @@ impl<N: Name, P: Port, C: Clock> ServedLine<N, P, C> {
     }
 
     /// Has a turn, if it is due and not held. It halts the exchange where the journal is full.
-    pub(crate) fn have_turn<R: Wait>(&mut self, rt: &R, alloc: Global, shared: &Shared<'_, N>)
+    pub(crate) fn have_turn<R: Wait>(&mut self, rt: &R, shared: &Shared<'_, N>)
         ensures { self.new ≡ self.old }
     {
         if !self.may_go(shared.signals) {
@@ -118,7 +117,7 @@ impl<N: Name, P: Port, C: Clock> ServedLine<N, P, C> {
         }
         self.state = match mem::replace(&mut self.state, LineState::Ended(EndReason::Halted)) {
             LineState::Open(session) => {
-                next_state(rt, alloc, shared, &mut self.seat, &mut self.port, session)
+                next_state(rt, shared, &mut self.seat, &mut self.port, session)
             }
             LineState::Stopped(rest) => LineState::Stopped(rest),
             LineState::Ended(why) => LineState::Ended(why),
@@ -207,7 +206,6 @@ impl<N: Name, P: Port, C: Clock> ServedLine<N, P, C> {
 /// A turn of an open line.
 fn next_state<N: Name, P: Port, C: Clock, R: Wait>(
     rt: &R,
-    alloc: Global,
     shared: &Shared<'_, N>,
     seat: &mut Seat<N, C>,
     port: &mut P,
@@ -216,7 +214,7 @@ fn next_state<N: Name, P: Port, C: Clock, R: Wait>(
     ensures { GoesOnTo N.subs P.Link.pushed P.Link.pulled session seat.old.pass result seat.new.pass }
 {
     seat.has_new_records = false;
-    let step = have_turn(rt, alloc, shared, seat, port, session);
+    let step = have_turn(rt, shared, seat, port, session);
     match step.end {
         None => LineState::Open(step.session),
         Some(why) => {

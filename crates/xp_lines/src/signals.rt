@@ -4,6 +4,7 @@ use std::sync::Wait;
 use std::sync::atomic::{AtomicBool, AtomicU64, AtomicUsize, Ordering};
 use std::thread::Parker;
 use std::time::Duration;
+use xp_limits::Limits;
 
 /// For how long the recording thread waits at most, in milliseconds.
 const PATIENCE: u64 = 50;
@@ -21,8 +22,8 @@ pub struct Signals {
     told: AtomicU64,
     /// How many records it has handed on.
     handed_on: AtomicU64,
-    /// With how many records serving ends.
-    wanted: u64,
+    /// When serving ends.
+    limits: Limits,
     /// Whether the lines are to stop.
     stopping: AtomicBool,
     /// What the recording thread waits on.
@@ -30,13 +31,13 @@ pub struct Signals {
 }
 
 impl Signals {
-    /// The signals of so many threads of lines, which serve until there are so many charging records.
-    pub fn new(threads: usize, wanted: u64) -> Signals {
+    /// The signals of so many threads of lines, which serve until these limits.
+    pub fn new(threads: usize, limits: Limits) -> Signals {
         Signals {
             running: AtomicUsize::new(threads),
             told: AtomicU64::new(0),
             handed_on: AtomicU64::new(0),
-            wanted,
+            limits,
             stopping: AtomicBool::new(false),
             parker: Parker::new(),
         }
@@ -56,7 +57,12 @@ impl Signals {
     /// Tells that the recording thread has handed on so many records. Returns whether these are all that are wanted.
     pub(crate) fn records_handed_on(&self, count: u64) -> bool {
         self.handed_on.store(count, Ordering::SeqCst);
-        count >= self.wanted
+        count >= self.limits.records
+    }
+
+    /// How many rounds of turns a thread has at most.
+    pub(crate) fn most_rounds(&self) -> u64 {
+        self.limits.turns
     }
 
     /// Whether more than 128 records wait for the recording thread. A line whose calls end then waits too, so that the memory of

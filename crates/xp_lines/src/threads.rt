@@ -12,7 +12,7 @@ ghost use Rattle.xp_subs.specs.Tables.{line_count};
 use crate::ends::{add_ends, add_unstarted};
 use crate::groups::{ThreadGroup, fill, groups_of, served_of};
 use crate::line::{EndReason, LineEnd};
-use crate::recording::keep_recording;
+use crate::recording::{RecordPath, keep_recording};
 use crate::rounds::serve_lines;
 use crate::served_line::{LineInputs, ServedLine};
 use crate::shared::Shared;
@@ -23,27 +23,35 @@ use std::sync::Wait;
 use std::thread;
 use std::thread::{Promise, PromisedHandle, Scope, Threads};
 use std::vec::IntoIter;
+use xp_limits::Limits;
 use xp_links::{Clock, Poller, Port};
 use xp_lock::Exchange;
-use xp_seats::{Name, Recorder};
+use xp_seats::Name;
 use xp_sink::RecordSink;
+
+/// All lines of an exchange, and what the threads that serve them wait on.
+#[derive(Drop)]
+pub struct LinesToServe<N: Name, P: Port, C: Clock, T: Poller> {
+    /// In order.
+    pub lines: Vec<LineInputs<N, P, C>>,
+    /// What each thread waits on, which serves as many of the next lines as its poller says.
+    pub pollers: Vec<T>,
+}
 
 /// What is left as all lines have ended.
 #[derive(Drop)]
 pub struct LinesServed<N: Name, S: RecordSink> {
     /// How the lines ended, in the order in which they were given.
     pub ends: Vec<LineEnd<N>>,
-    pub recorder: Recorder<N>,
-    /// The sink, with the charging records that it was given.
-    pub sink: S,
+    /// The recorder, and the sink with the charging records that it was given.
+    pub path: RecordPath<N, S>,
 }
 
 /// An allocation failed, and no line was served. The lines, the recorder and the sink come back.
 #[derive(Drop)]
 pub struct ServeFault<N: Name, P: Port, C: Clock, S: RecordSink> {
     pub lines: Vec<LineInputs<N, P, C>>,
-    pub recorder: Recorder<N>,
-    pub sink: S,
+    pub path: RecordPath<N, S>,
 }
 
 /// The promise that a thread returns the lines that it was given.
@@ -65,9 +73,9 @@ type Begun<N, P, C> = Result<
     Vec<ServedLine<N, P, C>>,
 >;
 
-/// Serves all lines until all have ended. There is a thread for each poller, which serves as many of the next lines as the poller
-/// says. `turns` is the most turns of each line, and `records` the number of charging records at which the exchange is halted. If a
-/// thread cannot be started, or there is none for a line, the exchange is halted. The ends are in the order of the lines.
+/// Serves all lines until all have ended, or until these limits: the most turns of each line, and the number of charging records at
+/// which the exchange is halted. There is a thread for each poller, how many the limits say is not looked at. If a thread cannot be
+/// started, or there is none for a line, the exchange is halted. The ends are in the order of the lines.
 ///
 /// The recorder takes the charging records of calls as they end, and the sink is given them: before, it was given those that the
 /// recorder took before. It is given the rest once all lines have ended; those that no memory could be had for stay with the
@@ -88,44 +96,37 @@ pub fn serve_all<
     rt: &R,
     alloc: Global,
     exchange: &Exchange<N>,
-    lines: Vec<LineInputs<N, P, C>>,
-    pollers: Vec<T>,
-    recorder: Recorder<N>,
-    sink: S,
-    turns: u64,
-    records: u64,
+    lines: LinesToServe<N, P, C, T>,
+    path: RecordPath<N, S>,
+    limits: Limits,
 ) -> Result<LinesServed<N, S>, ServeFault<N, P, C, S>>
-    requires lines { S.lines sink ≡ line_count N.subs }
-    requires tables { S.tables sink ≡ N.subs }
-    requires received { S.received sink ≡ recorder.received }
-    ensures ok { IfOk result (λ served. map (λ end. end.pass.line) served.ends.items ≡ map (λ line. line.pass.line) lines.items) }
-    ensures served { IfOk result (λ served. AreEach (IsLineServed N.subs (AreMoved P.Link.pushed P.Link.pulled)) (map (λ line. line.pass) lines.items) (map (λ end. end.pass) served.ends.items)) }
-    ensures stopped { IfOk result (λ served. AreEach (λ first end. end.why ≡ EndReason.Stopped → IsLineDown N.subs (AreMoved P.Link.pushed P.Link.pulled) first end.pass) (map (λ line. line.pass) lines.items) served.ends.items) }
-    ensures recorded { IfOk result (λ served. HandsOn S.received S.keeps recorder sink served.recorder served.sink) }
-    ensures err { IfErr result (λ fault. fault.lines ≡ lines) }
-    ensures kept { IfErr result (λ fault. (fault.recorder ≡ recorder) × (fault.sink ≡ sink)) }
+    requires lines { S.lines path.sink ≡ line_count N.subs }
+    requires tables { S.tables path.sink ≡ N.subs }
+    requires received { S.received path.sink ≡ path.recorder.received }
+    ensures ok { IfOk result (λ served. map (λ end. end.pass.line) served.ends.items ≡ map (λ line. line.pass.line) lines.lines.items) }
+    ensures served { IfOk result (λ served. AreEach (IsLineServed N.subs (AreMoved P.Link.pushed P.Link.pulled)) (map (λ line. line.pass) lines.lines.items) (map (λ end. end.pass) served.ends.items)) }
+    ensures stopped { IfOk result (λ served. AreEach (λ first end. end.why ≡ EndReason.Stopped → IsLineDown N.subs (AreMoved P.Link.pushed P.Link.pulled) first end.pass) (map (λ line. line.pass) lines.lines.items) served.ends.items) }
+    ensures recorded { IfOk result (λ served. HandsOn S.received S.keeps path.recorder path.sink served.path.recorder served.path.sink) }
+    ensures err { IfErr result (λ fault. fault.lines ≡ lines.lines) }
+    ensures kept { IfErr result (λ fault. (fault.path.recorder ≡ path.recorder) × (fault.path.sink ≡ path.sink)) }
 {
-    let signals = Signals::new(pollers.len(), records);
-    let shared = Shared::new(exchange, &signals);
+    let signals = Signals::new(lines.pollers.len(), limits);
+    let shared = Shared::new(alloc, exchange, &signals);
     let shared = &shared;
     thread::scope(
         thread::scope_env(),
         rt,
         |scope| -> Result<LinesServed<N, S>, ServeFault<N, P, C, S>>
-            requires lines { S.lines sink ≡ line_count N.subs }
-            requires tables { S.tables sink ≡ N.subs }
-            requires received { S.received sink ≡ recorder.received }
-            ensures ok { IfOk result (λ served. map (λ end. end.pass.line) served.ends.items ≡ map (λ line. line.pass.line) lines.items) }
-            ensures served { IfOk result (λ served. AreEach (IsLineServed N.subs (AreMoved P.Link.pushed P.Link.pulled)) (map (λ line. line.pass) lines.items) (map (λ end. end.pass) served.ends.items)) }
-            ensures stopped { IfOk result (λ served. AreEach (λ first end. end.why ≡ EndReason.Stopped → IsLineDown N.subs (AreMoved P.Link.pushed P.Link.pulled) first end.pass) (map (λ line. line.pass) lines.items) served.ends.items) }
-            ensures recorded { IfOk result (λ served. HandsOn S.received S.keeps recorder sink served.recorder served.sink) }
-            ensures err { IfErr result (λ fault. fault.lines ≡ lines) }
-            ensures kept { IfErr result (λ fault. (fault.recorder ≡ recorder) × (fault.sink ≡ sink)) }
-        {
-            serve_in(
-                rt, scope, alloc, shared, lines, pollers, recorder, sink, turns,
-            )
-        },
+            requires lines { S.lines path.sink ≡ line_count N.subs }
+            requires tables { S.tables path.sink ≡ N.subs }
+            requires received { S.received path.sink ≡ path.recorder.received }
+            ensures ok { IfOk result (λ served. map (λ end. end.pass.line) served.ends.items ≡ map (λ line. line.pass.line) lines.lines.items) }
+            ensures served { IfOk result (λ served. AreEach (IsLineServed N.subs (AreMoved P.Link.pushed P.Link.pulled)) (map (λ line. line.pass) lines.lines.items) (map (λ end. end.pass) served.ends.items)) }
+            ensures stopped { IfOk result (λ served. AreEach (λ first end. end.why ≡ EndReason.Stopped → IsLineDown N.subs (AreMoved P.Link.pushed P.Link.pulled) first end.pass) (map (λ line. line.pass) lines.lines.items) served.ends.items) }
+            ensures recorded { IfOk result (λ served. HandsOn S.received S.keeps path.recorder path.sink served.path.recorder served.path.sink) }
+            ensures err { IfErr result (λ fault. fault.lines ≡ lines.lines) }
+            ensures kept { IfErr result (λ fault. (fault.path.recorder ≡ path.recorder) × (fault.path.sink ≡ path.sink)) }
+        { serve_in(rt, scope, shared, lines, path) },
     )
 }
 
@@ -142,47 +143,38 @@ fn serve_in<
 >(
     rt: &'s R,
     scope: &Scope<'s, E>,
-    alloc: Global,
     shared: &'s Shared<'s, N>,
-    lines: Vec<LineInputs<N, P, C>>,
-    pollers: Vec<T>,
-    recorder: Recorder<N>,
-    sink: S,
-    turns: u64,
+    lines: LinesToServe<N, P, C, T>,
+    path: RecordPath<N, S>,
 ) -> Result<LinesServed<N, S>, ServeFault<N, P, C, S>>
-    requires lines { S.lines sink ≡ line_count N.subs }
-    requires tables { S.tables sink ≡ N.subs }
-    requires received { S.received sink ≡ recorder.received }
-    ensures ok { IfOk result (λ served. map (λ end. end.pass.line) served.ends.items ≡ map (λ line. line.pass.line) lines.items) }
-    ensures served { IfOk result (λ served. AreEach (IsLineServed N.subs (AreMoved P.Link.pushed P.Link.pulled)) (map (λ line. line.pass) lines.items) (map (λ end. end.pass) served.ends.items)) }
-    ensures stopped { IfOk result (λ served. AreEach (λ first end. end.why ≡ EndReason.Stopped → IsLineDown N.subs (AreMoved P.Link.pushed P.Link.pulled) first end.pass) (map (λ line. line.pass) lines.items) served.ends.items) }
-    ensures recorded { IfOk result (λ served. HandsOn S.received S.keeps recorder sink served.recorder served.sink) }
-    ensures err { IfErr result (λ fault. fault.lines ≡ lines) }
-    ensures kept { IfErr result (λ fault. (fault.recorder ≡ recorder) × (fault.sink ≡ sink)) }
+    requires lines { S.lines path.sink ≡ line_count N.subs }
+    requires tables { S.tables path.sink ≡ N.subs }
+    requires received { S.received path.sink ≡ path.recorder.received }
+    ensures ok { IfOk result (λ served. map (λ end. end.pass.line) served.ends.items ≡ map (λ line. line.pass.line) lines.lines.items) }
+    ensures served { IfOk result (λ served. AreEach (IsLineServed N.subs (AreMoved P.Link.pushed P.Link.pulled)) (map (λ line. line.pass) lines.lines.items) (map (λ end. end.pass) served.ends.items)) }
+    ensures stopped { IfOk result (λ served. AreEach (λ first end. end.why ≡ EndReason.Stopped → IsLineDown N.subs (AreMoved P.Link.pushed P.Link.pulled) first end.pass) (map (λ line. line.pass) lines.lines.items) served.ends.items) }
+    ensures recorded { IfOk result (λ served. HandsOn S.received S.keeps path.recorder path.sink served.path.recorder served.path.sink) }
+    ensures err { IfErr result (λ fault. fault.lines ≡ lines.lines) }
+    ensures kept { IfErr result (λ fault. (fault.path.recorder ≡ path.recorder) × (fault.path.sink ≡ path.sink)) }
 {
-    let Ok(rooms) = rooms_for(alloc, lines.len(), pollers) else {
-        return Err(ServeFault {
-            lines,
-            recorder,
-            sink,
-        });
+    let LinesToServe { lines, pollers } = lines;
+    let Ok(rooms) = rooms_for(shared.alloc, lines.len(), pollers) else {
+        return Err(ServeFault { lines, path });
     };
     let Rooms {
         served,
-        groups,
-        begun,
+        threads,
         ends,
     } = rooms;
     let mut left = served_of(lines, served).into_iter();
-    let begun = begin_all(rt, scope, alloc, shared, &mut left, groups, begun, turns);
+    let begun = begin_all(rt, scope, shared, &mut left, threads);
     if left.len() > 0 {
         shared.exchange.halt(rt);
     }
-    let recorded = keep_recording(rt, alloc, shared, recorder, sink);
+    let path = keep_recording(rt, shared, path);
     Ok(LinesServed {
         ends: end_all(rt, begun, left, ends),
-        recorder: recorded.recorder,
-        sink: recorded.sink,
+        path,
     })
 }
 
@@ -190,9 +182,15 @@ fn serve_in<
 #[derive(Drop)]
 struct Rooms<N: Name, P: Port, C: Clock, T: Poller> {
     served: Vec<ServedLine<N, P, C>>,
+    threads: ThreadsToBegin<N, P, C, T>,
+    ends: Vec<LineEnd<N>>,
+}
+
+/// The threads that are to begin, and room for those that have begun.
+#[derive(Drop)]
+struct ThreadsToBegin<N: Name, P: Port, C: Clock, T: Poller> {
     groups: Vec<ThreadGroup<N, P, C, T>>,
     begun: Vec<Begun<N, P, C>>,
-    ends: Vec<LineEnd<N>>,
 }
 
 /// Room for so many lines, and for the threads of these pollers.
@@ -202,15 +200,14 @@ fn rooms_for<N: Name, P: Port, C: Clock, T: Poller>(
     pollers: Vec<T>,
 ) -> Result<Rooms<N, P, C, T>, AllocError>
     ensures served { IfOk result (λ rooms. (rooms.served.items ≡ []) × (lines ≤ vec_capacity rooms.served)) }
-    ensures begun { IfOk result (λ rooms. (rooms.begun.items ≡ []) × (vec_len rooms.groups ≤ vec_capacity rooms.begun)) }
+    ensures begun { IfOk result (λ rooms. (rooms.threads.begun.items ≡ []) × (vec_len rooms.threads.groups ≤ vec_capacity rooms.threads.begun)) }
     ensures ends { IfOk result (λ rooms. (rooms.ends.items ≡ []) × (lines ≤ vec_capacity rooms.ends)) }
 {
     let groups = groups_of(alloc, pollers)?;
     let begun = Vec::with_capacity(alloc, groups.len())?;
     Ok(Rooms {
         served: Vec::with_capacity(alloc, lines)?,
-        groups,
-        begun,
+        threads: ThreadsToBegin { groups, begun },
         ends: Vec::with_capacity(alloc, lines)?,
     })
 }
@@ -227,24 +224,22 @@ fn begin_all<
 >(
     rt: &'s R,
     scope: &Scope<'s, E>,
-    alloc: Global,
     shared: &'s Shared<'s, N>,
     left: &mut IntoIter<ServedLine<N, P, C>, Global>,
-    groups: Vec<ThreadGroup<N, P, C, T>>,
-    begun: Vec<Begun<N, P, C>>,
-    turns: u64,
+    threads: ThreadsToBegin<N, P, C, T>,
 ) -> Vec<Begun<N, P, C>>
-    requires room { vec_len begun + vec_len groups ≤ vec_capacity begun }
-    requires none { begun.items ≡ [] }
+    requires room { vec_len threads.begun + vec_len threads.groups ≤ vec_capacity threads.begun }
+    requires none { threads.begun.items ≡ [] }
     requires many { length (into_iter_items left.old) ≡ into_iter_len left.old }
     ensures lines { into_iter_items left.old ≡ begun_lines result.items ++ into_iter_items left.new }
     ensures many { length (into_iter_items left.new) ≡ into_iter_len left.new }
 {
+    let ThreadsToBegin { groups, begun } = threads;
     let mut begun = begun;
     for group in groups {
         let ThreadGroup { poller, room } = group;
         let lines = fill(room, poller.lines(), left);
-        begun.push_reserved(begin_one(rt, scope, alloc, shared, lines, poller, turns));
+        begun.push_reserved(begin_one(rt, scope, shared, lines, poller));
     }
     begun
 }
@@ -261,11 +256,9 @@ fn begin_one<
 >(
     rt: &'s R,
     scope: &Scope<'s, E>,
-    alloc: Global,
     shared: &'s Shared<'s, N>,
     lines: Vec<ServedLine<N, P, C>>,
     poller: T,
-    turns: u64,
 ) -> Begun<N, P, C>
     ensures { lines_of result ≡ lines.items }
 {
@@ -274,7 +267,7 @@ fn begin_one<
     };
     let run = move || -> Vec<ServedLine<N, P, C>>
         ensures { result.items ≡ lines.items }
-    { serve_lines(rt, alloc, shared, lines, poller, turns) };
+    { serve_lines(rt, shared, lines, poller) };
     match scope.spawn_with(promise, run) {
         Ok(handle) => Ok(handle),
         Err(refused) => {

@@ -11,7 +11,8 @@ use std::snapshot::Snapshot;
 use std::sync::{Arc, Wait};
 use std::test::Fail;
 use std::thread::Threads;
-use xp_lines::{LineEnd, LineInputs, LinesServed, serve_all};
+use xp_limits::{Limits, ServingThreads};
+use xp_lines::{LineEnd, LineInputs, LinesServed, LinesToServe, RecordPath, serve_all};
 use xp_lock::{Exchange, LinePass, PreparedExchange, prepare};
 use xp_past::Past;
 use xp_seats::Name;
@@ -111,10 +112,17 @@ fn serves<N: Name + Send + Sync, R: Threads + Wait + Sync>(
     }
     let turns = board.number("turns=", 5_000_000);
     let records = board.number("records=", 1);
-    let lines = lines(alloc, passes, board)?;
-    match serve_all(
-        rt, alloc, &exchange, lines, pollers, recorder, sink, turns, records,
-    ) {
+    let limits = Limits {
+        records,
+        turns,
+        threads: ServingThreads::Chosen,
+    };
+    let lines = LinesToServe {
+        lines: lines(alloc, passes, board)?,
+        pollers,
+    };
+    let path = RecordPath { recorder, sink };
+    match serve_all(rt, alloc, &exchange, lines, path, limits) {
         Ok(served) => close(rt, alloc, exchange, served),
         Err(fault) => {
             drop(fault);
@@ -130,11 +138,8 @@ fn close<N: Name, R: Wait>(
     exchange: Exchange<N>,
     served: LinesServed<N, Kept>,
 ) -> Result<Vec<u8>, AllocError> {
-    let LinesServed {
-        ends,
-        recorder,
-        sink,
-    } = served;
+    let LinesServed { ends, path } = served;
+    let RecordPath { recorder, sink } = path;
     let mut text = Vec::new(alloc);
     let all = passes(alloc, ends, &mut text)?;
     match exchange.close(rt, all, recorder) {

@@ -10,7 +10,7 @@ use std::alloc::{AllocError, Allocator};
 use std::marker::Model;
 use xp_charge::{Meter, OverLimit};
 use xp_packets::{End, Packet};
-use xp_relay::{Judged, Moves, Relay, Terms};
+use xp_relay::{Judged, Moves, Relay, SequenceNumbers, Terms};
 use xp_subs::LineNo;
 
 /// The relay of a connected call, and the meter of what it carries.
@@ -172,7 +172,11 @@ impl<A: Allocator> MeteredRelay<A> {
         let mut meter = self.meter;
         if let Packet::DataPacket { ps, pr, octets, .. } = packet {
             let octets = octets.len();
-            if self.relay.judge(here, *ps, *pr, octets) == Judged::Accept {
+            if self
+                .relay
+                .judge(here, SequenceNumbers { ps: *ps, pr: *pr }, octets)
+                == Judged::Accept
+            {
                 meter.add(here, octets)?;
             }
         }

@@ -16,6 +16,15 @@ pub struct Data<A: Allocator = Global> {
     pub octets: Octets<A>,
 }
 
+/// The numbers of a data packet, as its line counts.
+#[derive(Clone, Copy)]
+pub struct SequenceNumbers {
+    /// P(S).
+    pub ps: u8,
+    /// P(R).
+    pub pr: u8,
+}
+
 /// The state of the interrupt that one end sends (X.25 clause 4.3.7).
 #[derive(Clone, Drop, PartialEq)]
 pub enum Interruption<A: Allocator = Global> {

@@ -11,7 +11,7 @@ mod state;
 mod terms;
 mod turns;
 
-pub use data::{Data, Interruption};
+pub use data::{Data, Interruption, SequenceNumbers};
 pub use judged::Judged;
 pub use laws::{
     a_turn_puts_out_few, every_packet_put_out_can_be_encoded, everything_is_delivered,

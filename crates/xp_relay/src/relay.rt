@@ -5,7 +5,7 @@ ghost use Rattle.xp_relay.specs.Judgement.{judgement};
 ghost use Rattle.xp_relay.specs.Terms.{IsWithinTerms};
 ghost use Rattle.xp_relay.specs.Turns.{carries, flow, interrupt, interrupt_confirm, reject, reset, reset_confirm};
 
-use crate::data::Data;
+use crate::data::{Data, SequenceNumbers};
 use crate::direction_state::DirectionState;
 use crate::judged::Judged;
 use crate::moves::Moves;
@@ -99,28 +99,33 @@ impl<A: Allocator> Relay<A> {
         FlowState::of(owes)
     }
 
-    /// Decides on a data packet of this end, with P(S), P(R) and this many octets.
-    pub fn judge(&self, here: End, ps: u8, pr: u8, octets: usize) -> Judged
-        ensures { (call : Coupled A) → RepresentsCall self.now call → result ≡ judgement ps pr octets (sent_by here call) (received_by here call) }
+    /// Decides on a data packet of this end, with these numbers and this many octets.
+    pub fn judge(&self, here: End, numbers: SequenceNumbers, octets: usize) -> Judged
+        ensures { (call : Coupled A) → RepresentsCall self.now call → result ≡ judgement numbers.ps numbers.pr octets (sent_by here call) (received_by here call) }
     {
         match here {
-            End::Caller => judge(ps, pr, octets, &self.from_caller, &self.from_called),
-            End::Called => judge(ps, pr, octets, &self.from_called, &self.from_caller),
+            End::Caller => judge(numbers, octets, &self.from_caller, &self.from_called),
+            End::Called => judge(numbers, octets, &self.from_called, &self.from_caller),
         }
     }
 
-    /// Takes a data packet of this end, with P(S) and P(R) (X.25 clause 4.4.1).
-    pub fn data(&mut self, here: End, carried: Data<A>, ps: u8, pr: u8, room: Moves<A>) -> Moves<A>
+    /// Takes a data packet of this end, with these numbers (X.25 clause 4.4.1).
+    pub fn data(
+        &mut self,
+        here: End,
+        carried: Data<A>,
+        numbers: SequenceNumbers,
+        room: Moves<A>,
+    ) -> Moves<A>
         requires empty { room.moves ≡ [] }
         requires space { 17 ≤ room.room }
-        ensures { (call : Coupled A) → RepresentsCall self.old call → Follows here (carries here carried ps pr) call self.new result.moves }
+        ensures { (call : Coupled A) → RepresentsCall self.old call → Follows here (carries here carried numbers.ps numbers.pr) call self.new result.moves }
     {
         match here {
             End::Caller => carry(
                 here,
                 carried,
-                ps,
-                pr,
+                numbers,
                 &mut self.from_caller,
                 &mut self.from_called,
                 room,
@@ -128,8 +133,7 @@ impl<A: Allocator> Relay<A> {
             End::Called => carry(
                 here,
                 carried,
-                ps,
-                pr,
+                numbers,
                 &mut self.from_called,
                 &mut self.from_caller,
                 room,

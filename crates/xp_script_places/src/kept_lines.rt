@@ -1,7 +1,7 @@
 ghost use Rattle.std.specs.Prelude.{◌≡◌};
 
 use crate::kept_script::{KeptScript, LINE_FEED};
-use memchr::{memchr, memrchr};
+use memchr::memrchr;
 use std::alloc::{AllocError, Global};
 use std::io;
 use std::io::Read;
@@ -12,17 +12,19 @@ use xp_script::MAX_LINE_OCTETS;
 const TABLES: &[u8] = b"tables ";
 
 /// A reader of a script that keeps the last lines which it gave: those of its last read, from the beginning of the line that the read
-/// before left unfinished. Of the lines before these it keeps those that bring subscriptions into force. It gives what the reader within
-/// gives.
+/// before left unfinished. Of the lines before these it keeps those that bring subscriptions into force, where lines may. It gives what
+/// the reader within gives.
 #[derive(Drop)]
 pub struct KeptLines<R> {
     reader: R,
+    /// Whether lines may bring subscriptions into force.
+    may_bring: bool,
     /// The lines before the last ones that bring subscriptions into force.
     brought: Vec<u8>,
     /// The last lines.
     octets: Vec<u8>,
-    /// The number of the first of the last lines.
-    first: u64,
+    /// How many lines were finished before the last lines, counted where lines may bring subscriptions into force.
+    finished: u64,
     /// Whether memory was found for all of them so far.
     is_whole: bool,
 }
@@ -34,15 +36,16 @@ impl<R> Model for KeptLines<R> {
 }
 
 impl<R> KeptLines<R> {
-    /// A reader that has given nothing yet.
-    pub fn new(alloc: Global, reader: R) -> KeptLines<R>
+    /// A reader that has given nothing yet, of a script whose lines may bring subscriptions into force, or may not.
+    pub fn new(alloc: Global, reader: R, may_bring: bool) -> KeptLines<R>
         ensures { result ≡ reader }
     {
         KeptLines {
             reader,
+            may_bring,
             brought: Vec::new(alloc),
             octets: Vec::new(alloc),
-            first: 1,
+            finished: 0,
             is_whole: true,
         }
     }
@@ -54,7 +57,7 @@ impl<R> KeptLines<R> {
             KeptScript {
                 brought: &self.brought,
                 lines: &self.octets,
-                first: self.first,
+                first: self.may_bring.then_some(self.finished.saturating_add(1)),
             }
         } else {
             KeptScript::whole(&[])
@@ -66,8 +69,11 @@ impl<R> KeptLines<R> {
         ensures { self.new ≡ self.old }
     {
         if let Some(end) = memrchr(LINE_FEED, &self.octets) {
-            let is_kept = keep_brought(&mut self.brought, &self.octets[..end], &mut self.first);
-            self.is_whole = self.is_whole && is_kept;
+            if self.may_bring {
+                let finished = &self.octets[..end];
+                let is_kept = keep_brought(&mut self.brought, finished, &mut self.finished);
+                self.is_whole = self.is_whole && is_kept;
+            }
             let rest = self.octets.len() - end - 1;
             self.octets.copy_within(end + 1.., 0);
             self.octets.truncate(rest);
@@ -86,16 +92,13 @@ impl<R> KeptLines<R> {
 
 /// Adds those of these lines that bring subscriptions into force, and counts all of them. Returns whether memory was found.
 fn keep_brought(brought: &mut Vec<u8>, lines: &[u8], count: &mut u64) -> bool {
-    let mut is_kept = true;
-    let mut rest = lines;
-    while let Some(end) = memchr(LINE_FEED, rest) {
-        let (line, behind) = rest.split_at(end);
-        is_kept = is_kept && keep_if_brought(brought, line);
+    for line in lines.split(|octet| *octet == LINE_FEED) {
         *count = count.saturating_add(1);
-        rest = &behind[1..];
+        if !keep_if_brought(brought, line) {
+            return false;
+        }
     }
-    *count = count.saturating_add(1);
-    is_kept && keep_if_brought(brought, rest)
+    true
 }
 
 /// Adds a line, if it brings subscriptions into force. Returns whether memory was found.

@@ -11,8 +11,8 @@ pub(crate) const LINE_FEED: u8 = b'\n';
 pub struct KeptScript<'a> {
     pub(crate) brought: &'a [u8],
     pub(crate) lines: &'a [u8],
-    /// The number of the first of the lines.
-    pub(crate) first: u64,
+    /// The number of the first of the lines. None where no line may bring subscriptions into force: then lines were not counted.
+    pub(crate) first: Option<u64>,
 }
 
 impl<'a> KeptScript<'a> {
@@ -21,13 +21,13 @@ impl<'a> KeptScript<'a> {
         KeptScript {
             brought: &[],
             lines,
-            first: 1,
+            first: Some(1),
         }
     }
 
-    /// The line of this number, if it is kept.
+    /// The line of this number, if lines were counted and it is kept.
     pub fn line(&self, number: u64) -> Option<&'a [u8]> {
-        let mut place = self.first;
+        let mut place = self.first?;
         for line in self.lines.split(|octet| *octet == LINE_FEED) {
             if place == number {
                 return Some(line);
@@ -35,6 +35,14 @@ impl<'a> KeptScript<'a> {
             place = place.saturating_add(1);
         }
         None
+    }
+
+    /// The lines, where they were not counted.
+    pub(crate) fn uncounted(&self) -> Option<&'a [u8]> {
+        match self.first {
+            Some(_) => None,
+            None => Some(self.lines),
+        }
     }
 
     /// The subscriptions in force at the line of this number: those with which the exchange was opened, or the last that a line
@@ -50,11 +58,14 @@ impl<'a> KeptScript<'a> {
         named: &[NamedTables<'_>],
         number: u64,
     ) -> Result<Subs, AllocError> {
+        let Some(first) = self.first else {
+            return Ok(opening);
+        };
         let mut force = opening;
         for line in self.brought.split(|octet| *octet == LINE_FEED) {
             force = force_behind(alloc, force, named, line)?;
         }
-        let mut place = self.first;
+        let mut place = first;
         for line in self.lines.split(|octet| *octet == LINE_FEED) {
             if place >= number {
                 return Ok(force);

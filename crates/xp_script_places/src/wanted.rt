@@ -1,5 +1,6 @@
 //! What was wanted at the faulty line of a script.
 
+use crate::kept_script::{KeptScript, LINE_FEED};
 use crate::shown::Shown;
 use crate::trial::{Form, Trial};
 use std::alloc::{AllocError, Global};
@@ -31,6 +32,34 @@ pub fn wanted_at(
         push_wanted(trial, &mut told, line)?;
     }
     Ok(told)
+}
+
+/// What was wanted at the faulty line of this number, where these subscriptions are in force at it: as `wanted_at` tells. Where the lines
+/// were not counted, the faulty line is the first of those that are kept which is no line of a script. Empty where it is not kept.
+///
+/// # Errors
+///
+/// An allocation failed.
+pub fn wanted_in(
+    alloc: Global,
+    force: &Subs,
+    named: &[NamedTables<'_>],
+    script: KeptScript<'_>,
+    number: u64,
+) -> Result<String, AllocError> {
+    if let Some(line) = script.line(number) {
+        return wanted_at(alloc, force, named, line);
+    }
+    let Some(lines) = script.uncounted() else {
+        return Ok(String::new(alloc));
+    };
+    for line in lines.split(|octet| *octet == LINE_FEED) {
+        let told = wanted_at(alloc, force, named, line)?;
+        if !told.is_empty() {
+            return Ok(told);
+        }
+    }
+    Ok(String::new(alloc))
 }
 
 /// What was wanted at a faulty line.

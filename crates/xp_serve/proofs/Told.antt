@@ -1,12 +1,11 @@
 -- What is told of what was served.
 use Rattle.std.proofs.Common.{◌≡◌, ◌↔◌, ℕ, ◌<◌, List, IfSome, Option, Some, None, Result, Err, Ok, ap, inl, inr, length, subst, sym, zero-add, ◌∙◌}
-use Rattle.std.specs.declared.net.ip_addr.IpAddr.{IpAddr}
 use Rattle.xp_cdr.specs.declared.ended.EndedCall.{EndedCall}
 use Rattle.xp_serve.proofs.EarlyEnds.{early_within}
 use Rattle.xp_step.specs.InForce.{in_force}
 use Rattle.xp_serve.specs.Ends.{failure_by}
 use Rattle.xp_listening.specs.Failures.{failure_to_keep}
-use Rattle.xp_listening.specs.Hosts.{IsHost, IsNoHost}
+use Rattle.xp_listening.specs.Hosts.{IsNoHost}
 use Rattle.xp_serve.specs.Served.{IsServed}
 use Rattle.xp_serve.specs.Serving.{Serves, outcome, told}
 use Rattle.xp_serve.specs.declared.ends.EarlyEndCause.{EarlyEndCause}
@@ -35,8 +34,18 @@ no_host_ended tables None same = cc
 no_host_ended tables (Some early_end) same = no_host_failed tables early_end.line early_end.cause (cc)
 
 -- a failure that is told
-abbrev failed : ServeFailure → Result (Unit {0}) ServeFailure
+abbrev pub failed : ServeFailure → Result (Unit {0}) ServeFailure
 failed failure = Err failure
+
+-- where sockets were had, none is told
+pub no_sockets : {S : Type 0} (result : Result S ServeFailure) (sockets : S) → result ≡ Ok sockets → result ≡ Err Host → ⊥
+no_sockets result sockets had none = cc
+
+-- where none were had, what is told is why
+pub same_told : {S : Type 0} (result : Result S ServeFailure) (failure : ServeFailure) → result ≡ Err failure → result ≡ Err Host → failed failure ≡ failed Host
+same_told result failure is none =
+    let same : failure ≡ Host = cc in
+    ap failed same
 
 no_host_kept : (fault : KeepFault) → failed Host ≡ failed (failure_to_keep fault) → ⊥
 no_host_kept faults.Memory same = cc
@@ -57,8 +66,7 @@ module _ {K : Type 0} (kept : K → List EndedCall → Result (Unit {0}) KeepFau
   told_of_host tables before after (inl unserved) = unserved.1
   told_of_host tables before after (inr served) = absurd (no_host_told (in_force served.0.book.subs served.0.book.history) served.0.early_end served.2.keeping served.2.told_is)
 
-  -- a host that is an address is not told
-  pub not_of_host : (tables : Tables) (before after : K) (result : Result (Unit {0}) ServeFailure) (address : IpAddr)
-      → IsHost tables.host address → Serves kept keeps tables before after result → (result ≡ Err Host) ↔ IsNoHost tables.host
-  not_of_host tables before after result address is served =
-      (λ same. told_of_host tables before after (subst (Serves kept keeps tables before after) same served), λ none. absurd (none address is))
+  -- a host is told exactly where it is no address
+  pub host_told : (tables : Tables) (before after : K) (result : Result (Unit {0}) ServeFailure)
+      → (IsNoHost tables.host → result ≡ Err Host) → Serves kept keeps tables before after result → (result ≡ Err Host) ↔ IsNoHost tables.host
+  host_told tables before after result none served = (λ same. told_of_host tables before after (subst (Serves kept keeps tables before after) same served), none)

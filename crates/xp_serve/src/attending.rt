@@ -6,17 +6,15 @@ ghost use Rattle.xp_sink.specs.Seen.{IsSeenOf};
 ghost use Rattle.xp_serve.specs.Serving.{Serves};
 
 use crate::offered::OfferedSubs;
-use crate::serving::{ServeEnd, serve};
+use crate::serving::{ServeEnd, ServingTerms, serve};
 use std::alloc::Global;
 use std::net::{Net, TcpListener, TcpStream};
-use std::sync::{Arc, Wait};
+use std::sync::Wait;
 use std::thread::Threads;
 use xp_charge::Record;
 use xp_keeping::{KeepFault, RecordKeeper};
-use xp_limits::Limits;
 use xp_sink::{NextSubs, NotInForce, Received, RecordSink};
 use xp_subs::Subs;
-use xp_tcp::LinePlaces;
 use xp_view::ExchangeView;
 
 /// What is looked at again and again while the lines are served.
@@ -197,20 +195,13 @@ pub fn serve_attended<
     R: Net<Listener = TcpListener, Stream = TcpStream> + Threads + Wait + Sync,
     K: RecordKeeper,
     W: Watch,
->(
-    rt: &R,
-    alloc: Global,
-    subs: Subs,
-    limits: Limits,
-    places: Arc<LinePlaces>,
-    attending: Attending<K, W>,
-) -> ServeEnd<K>
+>(rt: &R, alloc: Global, subs: Subs, terms: ServingTerms, attending: Attending<K, W>) -> ServeEnd<K>
     requires names { K.named_by attending.keeper ≡ subs }
     requires tables { W.tables ≡ subs }
     requires new { K.received attending.keeper ≡ [] }
     ensures { Serves K.kept K.keeps subs attending.keeper result.keeper result.outcome }
 {
-    let ServeEnd { keeper, outcome } = serve(rt, alloc, subs, limits, places, attending);
+    let ServeEnd { keeper, outcome } = serve(rt, alloc, subs, terms, attending);
     let Attending {
         keeper,
         watch: _,

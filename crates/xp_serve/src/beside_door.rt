@@ -12,12 +12,19 @@ use std::sync::Wait;
 use std::thread;
 use std::thread::{JoinHandle, Scope, Threads};
 use xp_limits::Limits;
-use xp_lines::{EndReason, LineInputs, LinesServed, ServeFault, serve_all};
+use xp_lines::{EndReason, LinesServed, LinesToServe, RecordPath, ServeFault, serve_all};
 use xp_links::{Clock, Link, Poller, Port};
 use xp_lock::Exchange;
-use xp_seats::{Name, Recorder};
+use xp_seats::Name;
 use xp_sink::RecordSink;
 use xp_tcp::Door;
+
+/// What the threads of all lines are given, and the door of the lines behind routers, if there are any.
+#[derive(Drop)]
+pub struct LinesAndDoor<N: Name, P: Port, C: Clock, T: Poller> {
+    pub lines: LinesToServe<N, P, C, T>,
+    pub door: Option<Door>,
+}
 
 /// Serves all lines by [`serve_all`]. Where there is a door, it takes the connections of routers meanwhile, on a thread of its own.
 ///
@@ -35,56 +42,47 @@ pub(crate) fn serve_with_door<
     rt: &R,
     alloc: Global,
     exchange: &Exchange<N>,
-    lines: Vec<LineInputs<N, P, C>>,
-    pollers: Vec<T>,
-    door: Option<Door>,
-    recorder: Recorder<N>,
-    sink: S,
+    threads: LinesAndDoor<N, P, C, T>,
+    path: RecordPath<N, S>,
     limits: Limits,
 ) -> Result<LinesServed<N, S>, ServeFault<N, P, C, S>>
-    requires lines { S.lines sink ≡ line_count N.subs }
-    requires tables { S.tables sink ≡ N.subs }
-    requires received { S.received sink ≡ recorder.received }
-    ensures served { IfOk result (λ served. AreEach (IsLineServed N.subs (AreMoved P.Link.pushed P.Link.pulled)) (map (λ line. line.pass) lines.items) (map (λ end. end.pass) served.ends.items)) }
-    ensures stopped { IfOk result (λ served. AreEach (λ first end. end.why ≡ EndReason.Stopped → IsLineDown N.subs (AreMoved P.Link.pushed P.Link.pulled) first end.pass) (map (λ line. line.pass) lines.items) served.ends.items) }
-    ensures recorded { IfOk result (λ served. HandsOn S.received S.keeps recorder sink served.recorder served.sink) }
-    ensures kept { IfErr result (λ fault. fault.sink ≡ sink) }
+    requires lines { S.lines path.sink ≡ line_count N.subs }
+    requires tables { S.tables path.sink ≡ N.subs }
+    requires received { S.received path.sink ≡ path.recorder.received }
+    ensures served { IfOk result (λ served. AreEach (IsLineServed N.subs (AreMoved P.Link.pushed P.Link.pulled)) (map (λ line. line.pass) threads.lines.lines.items) (map (λ end. end.pass) served.ends.items)) }
+    ensures stopped { IfOk result (λ served. AreEach (λ first end. end.why ≡ EndReason.Stopped → IsLineDown N.subs (AreMoved P.Link.pushed P.Link.pulled) first end.pass) (map (λ line. line.pass) threads.lines.lines.items) served.ends.items) }
+    ensures recorded { IfOk result (λ served. HandsOn S.received S.keeps path.recorder path.sink served.path.recorder served.path.sink) }
+    ensures kept { IfErr result (λ fault. fault.path.sink ≡ path.sink) }
 {
-    let (turns, records) = (limits.turns, limits.records);
+    let LinesAndDoor { lines, door } = threads;
     let Some(door) = door else {
-        return serve_all(
-            rt, alloc, exchange, lines, pollers, recorder, sink, turns, records,
-        );
+        return serve_all(rt, alloc, exchange, lines, path, limits);
     };
     let Ok(bell) = door.bell() else {
         return Err(ServeFault {
-            lines,
-            recorder,
-            sink,
+            lines: lines.lines,
+            path,
         });
     };
     thread::scope(
         thread::scope_env(),
         rt,
         |scope| -> Result<LinesServed<N, S>, ServeFault<N, P, C, S>>
-            requires lines { S.lines sink ≡ line_count N.subs }
-            requires tables { S.tables sink ≡ N.subs }
-            requires received { S.received sink ≡ recorder.received }
-            ensures served { IfOk result (λ served. AreEach (IsLineServed N.subs (AreMoved P.Link.pushed P.Link.pulled)) (map (λ line. line.pass) lines.items) (map (λ end. end.pass) served.ends.items)) }
-            ensures stopped { IfOk result (λ served. AreEach (λ first end. end.why ≡ EndReason.Stopped → IsLineDown N.subs (AreMoved P.Link.pushed P.Link.pulled) first end.pass) (map (λ line. line.pass) lines.items) served.ends.items) }
-            ensures recorded { IfOk result (λ served. HandsOn S.received S.keeps recorder sink served.recorder served.sink) }
-            ensures kept { IfErr result (λ fault. fault.sink ≡ sink) }
+            requires lines { S.lines path.sink ≡ line_count N.subs }
+            requires tables { S.tables path.sink ≡ N.subs }
+            requires received { S.received path.sink ≡ path.recorder.received }
+            ensures served { IfOk result (λ served. AreEach (IsLineServed N.subs (AreMoved P.Link.pushed P.Link.pulled)) (map (λ line. line.pass) lines.lines.items) (map (λ end. end.pass) served.ends.items)) }
+            ensures stopped { IfOk result (λ served. AreEach (λ first end. end.why ≡ EndReason.Stopped → IsLineDown N.subs (AreMoved P.Link.pushed P.Link.pulled) first end.pass) (map (λ line. line.pass) lines.lines.items) served.ends.items) }
+            ensures recorded { IfOk result (λ served. HandsOn S.received S.keeps path.recorder path.sink served.path.recorder served.path.sink) }
+            ensures kept { IfErr result (λ fault. fault.path.sink ≡ path.sink) }
         {
             let Some(running) = begin_door(rt, scope, door) else {
                 return Err(ServeFault {
-                    lines,
-                    recorder,
-                    sink,
+                    lines: lines.lines,
+                    path,
                 });
             };
-            let served = serve_all(
-                rt, alloc, exchange, lines, pollers, recorder, sink, turns, records,
-            );
+            let served = serve_all(rt, alloc, exchange, lines, path, limits);
             bell.stop();
             running.join(rt);
             served

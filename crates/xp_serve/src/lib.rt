@@ -22,7 +22,7 @@ pub use ends::{EarlyEnd, EarlyEndCause};
 pub use live_watch::LiveWatch;
 pub use offered::{OfferedSubs, SubsSource};
 pub use served::{NotServed, Recorded, Served};
-pub use serving::{ServeEnd, TcpLine, TcpThreads, serve, serve_on, thread_inputs};
+pub use serving::{ServeEnd, ServingTerms, TcpLine, TcpThreads, serve, serve_on, thread_inputs};
 pub use stop_input::StopInput;
 pub use traced_watch::TracedWatch;
 pub use watching::OperatorWatch;

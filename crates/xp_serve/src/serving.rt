@@ -1,6 +1,8 @@
 //! The exchange that is served: its lines' ports, threads and records.
 
 ghost use Rattle.std.specs.Prelude.{◌≡◌, ◌<◌, ◌≤◌, ◌++◌, ◌↔◌, [], Err, IfErr, IfOk, IfSome, length, map, vec_capacity, vec_len};
+ghost use Rattle.xp_listening.specs.Accesses.{AreServedAt};
+ghost use Rattle.xp_listening.specs.Failures.{IsWanting};
 ghost use Rattle.xp_listening.specs.Hosts.{IsNoHost};
 ghost use Rattle.xp_serve.specs.Served.{IsServed};
 ghost use Rattle.xp_serve.specs.Serving.{Serves, Tells};
@@ -9,7 +11,7 @@ ghost use Rattle.xp_serve.specs.steps.Serving.{AreReady, WereServed, WereStopped
 ghost use Rattle.xp_subs.specs.Bounds.{most_lines};
 ghost use Rattle.xp_subs.specs.Tables.{line_count};
 
-use crate::beside_door::serve_with_door;
+use crate::beside_door::{LinesAndDoor, serve_with_door};
 use crate::ends::{end_reasons_of, first_early_end, passes_of};
 use crate::served::{NotServed, Recorded, Served};
 use crate::telling::tell;
@@ -22,16 +24,23 @@ use std::thread;
 use std::thread::Threads;
 use xp_keeping::RecordKeeper;
 use xp_limits::{Limits, ServingThreads};
-use xp_lines::{EndReason, LineInputs, LinesServed};
+use xp_lines::{EndReason, LineInputs, LinesServed, LinesToServe, RecordPath, ServeFault};
 use xp_listening::{ServeFailure, host_address, listen_all};
 use xp_lock::{Exchange, LinePass, PreparedExchange, prepare};
 use xp_seats::{Name, Recorder};
 use xp_sink::RecordSink;
 use xp_subs::Subs;
-use xp_tcp::{Door, Ends, LinePlaces, LinePort, Sockets, TcpClock, TcpPoller};
+use xp_tcp::{Ends, LinePlaces, LinePort, Sockets, TcpClock, TcpPoller};
 
 /// How many lines are few enough for one thread.
 const LINES_OF_A_THREAD: usize = 8;
+
+/// In which places lines are served, and until when.
+#[derive(Drop)]
+pub struct ServingTerms {
+    pub limits: Limits,
+    pub places: Arc<LinePlaces>,
+}
 
 /// What serving came to.
 #[derive(Drop)]
@@ -55,49 +64,15 @@ pub struct ServeEnd<K: RecordKeeper> {
 pub fn serve<
     R: Net<Listener = TcpListener, Stream = TcpStream> + Threads + Wait + Sync,
     K: RecordKeeper,
->(
-    rt: &R,
-    alloc: Global,
-    subs: Subs,
-    limits: Limits,
-    places: Arc<LinePlaces>,
-    keeper: K,
-) -> ServeEnd<K>
+>(rt: &R, alloc: Global, subs: Subs, terms: ServingTerms, keeper: K) -> ServeEnd<K>
     requires names { K.named_by keeper ≡ subs }
     requires tables { K.tables keeper ≡ subs }
     requires new { K.received keeper ≡ [] }
     ensures host { (result.outcome ≡ Err NoHost) ↔ IsNoHost subs.host }
     ensures serves { Serves K.kept K.keeps subs keeper result.keeper result.outcome }
 {
-    let Some(host) = host_address(subs.host()) else {
-        return ServeEnd {
-            keeper,
-            outcome: Err(ServeFailure::Host),
-        };
-    };
-    serve_at(rt, alloc, subs, host, limits, places, keeper)
-}
-
-/// Serves all lines at an address of the machine.
-fn serve_at<
-    R: Net<Listener = TcpListener, Stream = TcpStream> + Threads + Wait + Sync,
-    K: RecordKeeper,
->(
-    rt: &R,
-    alloc: Global,
-    subs: Subs,
-    host: IpAddr,
-    limits: Limits,
-    places: Arc<LinePlaces>,
-    keeper: K,
-) -> ServeEnd<K>
-    requires names { K.named_by keeper ≡ subs }
-    requires tables { K.tables keeper ≡ subs }
-    requires new { K.received keeper ≡ [] }
-    ensures { Serves K.kept K.keeps subs keeper result.keeper result.outcome }
-{
-    let threads = threads_for(rt, subs.counts().lines, limits.threads);
-    let sockets = match listen_all(rt, alloc, &subs, host, threads, places) {
+    let ServingTerms { limits, places } = terms;
+    let sockets = match listen(rt, alloc, &subs, limits.threads, places) {
         Ok(sockets) => sockets,
         Err(failure) => {
             return ServeEnd {
@@ -113,6 +88,25 @@ fn serve_at<
             outcome: Err(ServeFailure::Memory),
         },
     }
+}
+
+/// Listens at the host of the subscription file, for as many threads as are asked for.
+fn listen<R: Net<Listener = TcpListener, Stream = TcpStream> + Threads + Wait + Sync>(
+    rt: &R,
+    alloc: Global,
+    subs: &Subs,
+    threads: ServingThreads,
+    places: Arc<LinePlaces>,
+) -> Result<Sockets, ServeFailure>
+    ensures host { IsNoHost subs.now.host → result ≡ Err NoHost }
+    ensures accesses { IfOk result (AreServedAt subs.now) }
+    ensures wanting { IfErr result (IsWanting subs.now) }
+{
+    let Some(host) = host_address(subs.host()) else {
+        return Err(ServeFailure::Host);
+    };
+    let threads = threads_for(rt, subs.counts().lines, threads);
+    listen_all(rt, alloc, subs, host, threads, places)
 }
 
 /// How many threads serve so many lines, where these are asked for: no more than there are lines.
@@ -212,18 +206,19 @@ fn serve_named<
     };
     let Ready {
         exchange,
-        lines,
-        pollers,
-        door,
+        threads,
         recorder,
         room,
         room_of_reasons,
     } = ready;
-    match serve_with_door(
-        rt, alloc, &exchange, lines, pollers, door, recorder, sink, limits,
-    ) {
+    let path = RecordPath { recorder, sink };
+    match serve_with_door(rt, alloc, &exchange, threads, path, limits) {
         Ok(lines) => Ok(close(rt, exchange, lines, room, room_of_reasons)),
-        Err(fault) => Err(NotServed { sink: fault.sink }),
+        Err(fault) => {
+            let ServeFault { lines: _, path } = fault;
+            let RecordPath { recorder: _, sink } = path;
+            Err(NotServed { sink })
+        }
     }
 }
 
@@ -241,14 +236,11 @@ fn close<N: Name, S: RecordSink, R: Wait>(
     requires room { (room.items ≡ []) × (line_count N.subs ≤ vec_capacity room) }
     requires room_of_reasons { (room_of_reasons.items ≡ []) × (line_count N.subs ≤ vec_capacity room_of_reasons) }
     ensures served { IsServed N.subs result.served }
-    ensures given { result.served.book.given ≡ lines.recorder.received }
-    ensures sink { result.sink ≡ lines.sink }
+    ensures given { result.served.book.given ≡ lines.path.recorder.received }
+    ensures sink { result.sink ≡ lines.path.sink }
 {
-    let LinesServed {
-        ends,
-        recorder,
-        sink,
-    } = lines;
+    let LinesServed { ends, path } = lines;
+    let RecordPath { recorder, sink } = path;
     let end_reasons = end_reasons_of(&ends, room_of_reasons);
     let early_end = first_early_end(&end_reasons);
     let Ok(book) = exchange.close(rt, passes_of(ends, room), recorder) else {
@@ -268,11 +260,7 @@ fn close<N: Name, S: RecordSink, R: Wait>(
 #[derive(Drop)]
 struct Ready<N: Name> {
     exchange: Exchange<N>,
-    lines: Vec<TcpLine<N>>,
-    /// What the threads of the lines wait on.
-    pollers: Vec<TcpPoller>,
-    /// The door of the lines behind routers, if there are any.
-    door: Option<Door>,
+    threads: TcpThreads<N>,
     recorder: Recorder<N>,
     /// Room for the passes of the lines, and for why they ended.
     room: Vec<LinePass<N>>,
@@ -294,16 +282,10 @@ fn make_ready<N: Name>(
     let (exchange, passes, recorder) = Exchange::<N>::start(alloc, prepared)?;
     let room = Vec::with_capacity(alloc, passes.len())?;
     let room_of_reasons = Vec::with_capacity(alloc, passes.len())?;
-    let TcpThreads {
-        lines,
-        pollers,
-        door,
-    } = thread_inputs(alloc, passes, sockets)?;
+    let threads = thread_inputs(alloc, passes, sockets)?;
     Ok(Ready {
         exchange,
-        lines,
-        pollers,
-        door,
+        threads,
         recorder,
         room,
         room_of_reasons,
@@ -313,15 +295,8 @@ fn make_ready<N: Name>(
 /// What a line is served with over TCP.
 pub type TcpLine<N> = LineInputs<N, LinePort, TcpClock>;
 
-/// What the threads of all lines are given, and the door of the lines behind routers, if there are any.
-#[derive(Drop)]
-pub struct TcpThreads<N: Name> {
-    /// In order.
-    pub lines: Vec<TcpLine<N>>,
-    /// What each thread waits on, which serves the next lines.
-    pub pollers: Vec<TcpPoller>,
-    pub door: Option<Door>,
-}
+/// What the threads of all lines are given over TCP.
+pub type TcpThreads<N> = LinesAndDoor<N, LinePort, TcpClock, TcpPoller>;
 
 /// What the threads of the lines are given, in the order of lines: each line its own pass and port.
 ///
@@ -334,8 +309,8 @@ pub fn thread_inputs<N: Name>(
     sockets: Sockets,
 ) -> Result<TcpThreads<N>, AllocError>
     requires { length sockets ≡ vec_len passes }
-    ensures passes { IfOk result (λ threads. map (λ line. line.pass) threads.lines.items ≡ passes.items) }
-    ensures ports { IfOk result (λ threads. map (λ line. line.port) threads.lines.items ≡ sockets) }
+    ensures passes { IfOk result (λ threads. map (λ line. line.pass) threads.lines.lines.items ≡ passes.items) }
+    ensures ports { IfOk result (λ threads. map (λ line. line.port) threads.lines.lines.items ≡ sockets) }
 {
     let mut served = Vec::with_capacity(alloc, passes.len())?;
     let Ends {
@@ -350,9 +325,11 @@ pub fn thread_inputs<N: Name>(
         };
         served.push(LineInputs { pass, port, clock })?;
     }
-    Ok(TcpThreads {
-        lines: served,
-        pollers: threads,
+    Ok(LinesAndDoor {
+        lines: LinesToServe {
+            lines: served,
+            pollers: threads,
+        },
         door,
     })
 }

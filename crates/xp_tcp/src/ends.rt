@@ -13,7 +13,7 @@ use crate::thread_sockets::ThreadSockets;
 use std::alloc::{AllocError, Global};
 use std::sync::Arc;
 use xp_clock::Start;
-use xp_door::{Door, DoorBell, Doorway, LineWaker, Routes};
+use xp_door::{Door, DoorBell, DoorWaits, Doorway, LineWaker, Routes};
 
 /// What the lines are given, in line order, what their threads are, each for the next lines, and the door, if it was opened.
 #[derive(Drop)]
@@ -126,7 +126,14 @@ impl Shared {
         let wakers = Arc::try_clone(&self.wakers)?;
         let notices = Arc::try_clone(&self.places.notices)?;
         let lines = rooms.router_lines(alloc)?;
-        let door = Door::new(alloc, doorway, poll, events, lines, wakers, notices)?;
+        let door = Door::new(
+            alloc,
+            doorway,
+            DoorWaits { poll, events },
+            lines,
+            wakers,
+            notices,
+        )?;
         self.serve(rooms, Some(theirs));
         Ok(door)
     }

@@ -5,7 +5,7 @@ ghost use Rattle.std.specs.Prelude.{◌≡◌, ◌↔◌, ◌⊎◌};
 ghost use Rattle.xp_tcp.specs.declared.line_listener.NoConnection.TheVariants as reasons;
 
 use crate::admission::Admission;
-use crate::own_port::{NotTaken, OwnPort};
+use crate::own_port::{NotTaken, OwnArrival, OwnPort};
 use crate::refusals::Refusals;
 use mio::net::TcpListener;
 use mio::{Registry, Token};
@@ -14,7 +14,7 @@ use std::io::ErrorKind;
 use std::sync::atomic::AtomicBool;
 use std::sync::atomic::Ordering::SeqCst;
 use std::sync::{Mutex, Wait};
-use xp_door::{Arrival, LineShare, Notice, hold, is_in_want};
+use xp_door::{LineShare, Notice, hold, is_in_want};
 
 /// How many connections are taken at most in one look, where those before failed or were refused.
 pub(crate) const MOST_TAKEN: usize = 16;
@@ -30,13 +30,24 @@ pub(crate) enum NoConnection {
     Fault,
 }
 
+/// What becomes of a connection that comes while the line has one.
+#[derive(Clone, Copy, PartialEq)]
+enum Met {
+    /// It takes the place of the line's.
+    Next,
+    /// It is closed: the line has one, whose place any other might take.
+    Refused,
+    /// It is closed: the port changes, or has changed.
+    Gone,
+}
+
 /// The port of a line's own, if it has one. The line's port and its link share it, on the line's thread, with whoever changes it.
 #[derive(Drop)]
 pub(crate) struct LineListener {
     own: Mutex<OwnPort>,
     pub(crate) share: LineShare,
     /// A connection that takes the place of the line's.
-    next: Mutex<Option<Arrival>>,
+    next: Mutex<Option<OwnArrival>>,
     refusals: Refusals,
     /// No connection could be accepted, for want of descriptors or of memory, and none was since.
     is_failing: AtomicBool,
@@ -54,7 +65,7 @@ impl LineListener {
     }
 
     /// Takes a connection that has come. One from an address that is not admitted is closed, and told.
-    pub(crate) fn accept(&self) -> Result<Arrival, NoConnection> {
+    pub(crate) fn accept(&self) -> Result<OwnArrival, NoConnection> {
         let taken = match hold(&self.own) {
             Some(own) => own.accept(),
             None => {
@@ -107,25 +118,34 @@ impl LineListener {
     }
 
     /// A connection has come while the line has one. Where the line's addresses are named the newest connection counts, and else the
-    /// one that the line has.
-    fn meet(&self, arrival: Arrival) {
+    /// one that the line has. One that came to a port that the line has no more is closed.
+    fn meet(&self, own: OwnArrival) {
         let line = self.share.line;
-        let peer = arrival.peer;
-        if self.admits_any() {
-            self.refuse(Notice::HasOne { line, peer });
-            return;
-        }
-        if let Some(mut next) = hold(&self.next) {
-            *next = Some(arrival);
-            self.share.tell(Notice::Replaced { line, peer });
+        let peer = own.arrival.peer;
+        match self.put_next(own) {
+            Met::Next => self.share.tell(Notice::Replaced { line, peer }),
+            Met::Refused => self.refuse(Notice::HasOne { line, peer }),
+            Met::Gone => {}
         }
     }
 
-    /// Whether connections may come from any address.
-    fn admits_any(&self) -> bool {
-        match hold(&self.own) {
-            Some(own) => own.admits_any(),
-            None => true,
+    /// Lets a connection take the place of the line's, where the line's addresses are named. The port does not change meanwhile.
+    fn put_next(&self, own: OwnArrival) -> Met {
+        let Some(port) = hold(&self.own) else {
+            return Met::Gone;
+        };
+        if !port.is_of(&own) {
+            return Met::Gone;
+        }
+        if port.admits_any() {
+            return Met::Refused;
+        }
+        match hold(&self.next) {
+            Some(mut next) => {
+                *next = Some(own);
+                Met::Next
+            }
+            None => Met::Gone,
         }
     }
 
@@ -137,7 +157,7 @@ impl LineListener {
     }
 
     /// Takes the connection that took the place of the line's.
-    pub(crate) fn take_next(&self) -> Option<Arrival> {
+    pub(crate) fn take_next(&self) -> Option<OwnArrival> {
         hold(&self.next)?.take()
     }
 

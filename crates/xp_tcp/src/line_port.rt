@@ -82,19 +82,10 @@ impl Port for LinePort {
         let Ok(place) = Arc::try_clone(&self.place) else {
             return Arrived::Nothing;
         };
-        let next = if self.behind.is_behind() {
-            by_router(self.behind.next())
+        if self.behind.is_behind() {
+            by_router(place, period, self.behind.next())
         } else {
-            by_port(self.own.next())
-        };
-        match next {
-            Arrived::Came(link) => Arrived::Came(LineLink {
-                place,
-                period,
-                link,
-            }),
-            Arrived::Nothing => Arrived::Nothing,
-            Arrived::Fault => Arrived::Fault,
+            by_port(place, self.own.next())
         }
     }
 }
@@ -171,19 +162,27 @@ impl Link for KindOfLink {
     }
 }
 
-/// What a router has for a line, as a link of either kind.
-fn by_router(next: Arrived<RouterLink>) -> Arrived<KindOfLink> {
+/// What a router has for the line of this place in this period.
+fn by_router(place: Arc<LinePlace>, period: u64, next: Arrived<RouterLink>) -> Arrived<LineLink> {
     match next {
-        Arrived::Came(link) => Arrived::Came(KindOfLink::Router(link)),
+        Arrived::Came(link) => Arrived::Came(LineLink {
+            place,
+            period,
+            link: KindOfLink::Router(link),
+        }),
         Arrived::Nothing => Arrived::Nothing,
         Arrived::Fault => Arrived::Fault,
     }
 }
 
-/// What a port has for a line, as a link of either kind.
-fn by_port(next: Arrived<TcpLink>) -> Arrived<KindOfLink> {
+/// What its own port has for the line of this place. A connection counts for the period in which it came.
+fn by_port(place: Arc<LinePlace>, next: Arrived<TcpLink>) -> Arrived<LineLink> {
     match next {
-        Arrived::Came(link) => Arrived::Came(KindOfLink::Own(link)),
+        Arrived::Came(link) => Arrived::Came(LineLink {
+            place,
+            period: link.period(),
+            link: KindOfLink::Own(link),
+        }),
         Arrived::Nothing => Arrived::Nothing,
         Arrived::Fault => Arrived::Fault,
     }

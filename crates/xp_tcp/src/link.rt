@@ -7,6 +7,7 @@ ghost use Rattle.xp_links.specs.Counts.{pulled_count, pushed_count};
 use crate::connection_notes::ConnectionNotes;
 use crate::line_listener::LineListener;
 use crate::options::{Patience, notice_dead_peer};
+use crate::own_port::OwnArrival;
 use crate::thread_links::ThreadLinks;
 use crate::tokens::stream_of;
 use mio::net::TcpStream;
@@ -21,6 +22,8 @@ use xp_links::{Link, Pulled, Pushed};
 /// dropped. A peer that is gone ends it within some 90 seconds. It ends where another connection takes its place.
 pub(crate) struct TcpLink {
     stream: TcpStream,
+    /// The period of the line's place in which the connection came.
+    period: u64,
     listener: Arc<LineListener>,
     links: Arc<ThreadLinks>,
     notes: ConnectionNotes,
@@ -30,6 +33,7 @@ impl Drop for TcpLink {
     fn drop(self) {
         let TcpLink {
             stream,
+            period: _,
             listener,
             links,
             notes,
@@ -44,10 +48,11 @@ impl Drop for TcpLink {
 impl TcpLink {
     /// The link of a connection, for which the line's thread waits from now on.
     pub(crate) fn new(
-        arrival: Arrival,
+        own: OwnArrival,
         listener: Arc<LineListener>,
         links: Arc<ThreadLinks>,
     ) -> io::Result<TcpLink> {
+        let OwnArrival { arrival, period } = own;
         let Arrival { stream, peer } = arrival;
         let mut stream = stream;
         wait_for(&mut stream, &links.waits, &listener.share, Patience::Line)?;
@@ -56,10 +61,16 @@ impl TcpLink {
         let notes = ConnectionNotes::new(&listener.share, Patience::Line);
         Ok(TcpLink {
             stream,
+            period,
             listener,
             links,
             notes,
         })
+    }
+
+    /// The period of the line's place in which the connection came.
+    pub(crate) fn period(&self) -> u64 {
+        self.period
     }
 }
 
@@ -76,7 +87,7 @@ pub(crate) fn wait_for(
     let interests = Interest::READABLE | Interest::WRITABLE;
     waits.register(stream, stream_of(share.line), interests)?;
     if let Some(waker) = share.waker() {
-        waker.refill();
+        waker.begin_connection();
     }
     Ok(())
 }

@@ -130,7 +130,10 @@ fn put_port<R: Wait>(
 ) {
     match socket {
         NextSocket::Bound(listener) => {
-            place.own.renew(rt, OwnPort::new(listener, port, admission));
+            let period = place.period.number();
+            place
+                .own
+                .renew(rt, OwnPort::new(listener, port, admission, period));
         }
         // The place has none from which it is taken: the thread of that line has ended.
         NextSocket::Of(_) => {}

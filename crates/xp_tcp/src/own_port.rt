@@ -24,17 +24,32 @@ pub(crate) enum NotTaken {
     NoSocket,
 }
 
+/// A connection that has come to a line's own port.
+#[derive(Drop)]
+pub(crate) struct OwnArrival {
+    pub(crate) arrival: Arrival,
+    /// The period of the place in which it came.
+    pub(crate) period: u64,
+}
+
 /// The socket that listens at a line's own port, if it has one, and from where its connections may come.
 #[derive(Drop)]
 pub(crate) struct OwnPort {
     listener: Option<TcpListener>,
     port: u16,
     admission: Admission,
+    /// The period of the place in which the line has this port.
+    period: u64,
 }
 
 impl OwnPort {
-    /// A socket that listens at this port, for connections from these sources.
-    pub(crate) fn new(listener: TcpListener, port: u16, admission: Admission) -> OwnPort
+    /// A socket that listens at this port, for connections from these sources, in this period of the place.
+    pub(crate) fn new(
+        listener: TcpListener,
+        port: u16,
+        admission: Admission,
+        period: u64,
+    ) -> OwnPort
         ensures port { result.port ≡ port }
         ensures admission { result.admission ≡ admission }
     {
@@ -42,6 +57,7 @@ impl OwnPort {
             listener: Some(listener),
             port,
             admission,
+            period,
         }
     }
 
@@ -53,12 +69,13 @@ impl OwnPort {
             listener: None,
             port: 0,
             admission: Admission::any(),
+            period: 0,
         }
     }
 
     /// Takes a connection that has come. One from an address that is not admitted is closed.
-    pub(crate) fn accept(&self) -> Result<Arrival, NotTaken>
-        ensures admitted { IfOk result (λ arrival. Admits self.now.admission (socket_ip arrival.peer)) }
+    pub(crate) fn accept(&self) -> Result<OwnArrival, NotTaken>
+        ensures admitted { IfOk result (λ own. Admits self.now.admission (socket_ip own.arrival.peer)) }
         ensures reason { IfErr result (IsReason self.now.admission) }
     {
         let Some(listener) = &self.listener else {
@@ -69,10 +86,18 @@ impl OwnPort {
                 if !self.admission.admits(peer.ip()) {
                     return Err(NotTaken::Stranger(peer));
                 }
-                Ok(Arrival { stream, peer })
+                Ok(OwnArrival {
+                    arrival: Arrival { stream, peer },
+                    period: self.period,
+                })
             }
             Err(error) => Err(NotTaken::Failed(error)),
         }
+    }
+
+    /// Whether a connection has come in the period in which the line has this port.
+    pub(crate) fn is_of(&self, own: &OwnArrival) -> bool {
+        self.listener.is_some() && self.period == own.period
     }
 
     /// Whether connections may come from any address.

@@ -3,6 +3,9 @@
 use std::sync::atomic::Ordering::SeqCst;
 use std::sync::atomic::{AtomicBool, AtomicU64};
 
+/// The number of the first period of a place.
+pub(crate) const FIRST_PERIOD: u64 = 0;
+
 /// What a link of a place may do.
 #[derive(Clone, Copy, PartialEq)]
 pub(crate) enum Standing {
@@ -25,7 +28,7 @@ impl Period {
     /// The first period of a place, which is not held.
     pub(crate) fn new() -> Period {
         Period {
-            number: AtomicU64::new(0),
+            number: AtomicU64::new(FIRST_PERIOD),
             is_held: AtomicBool::new(false),
         }
     }
@@ -36,6 +39,11 @@ impl Period {
             return None;
         }
         Some(self.number.load(SeqCst))
+    }
+
+    /// The number of the period, which also a place that is held has.
+    pub(crate) fn number(&self) -> u64 {
+        self.number.load(SeqCst)
     }
 
     /// What a link may do that began in the period with this number.

@@ -155,6 +155,8 @@ impl TcpPoller {
             if let Some(waker) = line.and_then(|line| self.lines.wakers.get(line as usize)) {
                 if is_listener(event.token()) {
                     waker.knock();
+                } else if event.is_read_closed() {
+                    waker.note_end();
                 }
                 waker.refill();
                 waker.mark_work();

@@ -2,9 +2,9 @@
 
 use crate::line_listener::{LineListener, MOST_TAKEN, NoConnection};
 use crate::link::TcpLink;
+use crate::own_port::OwnArrival;
 use crate::thread_links::ThreadLinks;
 use std::sync::Arc;
-use xp_door::Arrival;
 use xp_links::Arrived;
 
 /// Gives a line its links: the connections to its own port.
@@ -25,10 +25,10 @@ impl TcpPort {
     }
 
     /// The link of a connection. `None` where the connection has failed already.
-    fn link_of(&self, arrival: Arrival) -> Option<TcpLink> {
+    fn link_of(&self, own: OwnArrival) -> Option<TcpLink> {
         let listener = Arc::try_clone(&self.listener).ok()?;
         let links = Arc::try_clone(&self.links).ok()?;
-        TcpLink::new(arrival, listener, links).ok()
+        TcpLink::new(own, listener, links).ok()
     }
 
     /// The next link, if a connection has come.

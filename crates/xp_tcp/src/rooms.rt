@@ -9,7 +9,7 @@ use crate::line_place::LinePlace;
 use crate::line_port::LinePort;
 use crate::line_sockets::{LineSockets, LineSource};
 use crate::own_port::OwnPort;
-use crate::period::Period;
+use crate::period::{FIRST_PERIOD, Period};
 use std::alloc::{AllocError, Global};
 use std::mem;
 use std::net::SocketAddr;
@@ -110,7 +110,7 @@ fn parts_of(source: LineSource) -> (OwnPort, Option<(SocketAddr, Caller)>)
 {
     match source {
         LineSource::Own(port, listener, admission) => {
-            (OwnPort::new(listener, port, admission), None)
+            (OwnPort::new(listener, port, admission, FIRST_PERIOD), None)
         }
         LineSource::Router(router, caller) => (OwnPort::none(), Some((router, caller))),
         LineSource::Spare => (OwnPort::none(), None),

@@ -5,7 +5,7 @@ ghost use Rattle.xp_relay.specs.Coupled.{Coupled};
 ghost use Rattle.xp_relay.specs.StoredCoupled.{Follows, RepresentsCall};
 ghost use Rattle.xp_relay.specs.Turns.{turn_of};
 
-use crate::data::Data;
+use crate::data::{Data, SequenceNumbers};
 use crate::moves::Moves;
 use crate::relay::Relay;
 use std::alloc::{AllocError, Allocator};
@@ -40,7 +40,8 @@ impl<A: Allocator + Copy> Relay<A> {
                     more: *more,
                     octets: octets.copy()?,
                 };
-                Ok(self.data(here, carried, *ps, *pr, room))
+                let numbers = SequenceNumbers { ps: *ps, pr: *pr };
+                Ok(self.data(here, carried, numbers, room))
             }
             Packet::Ready { pr } => Ok(self.flow(here, true, *pr, room)),
             Packet::NotReady { pr } => Ok(self.flow(here, false, *pr, room)),

@@ -7,7 +7,7 @@ ghost use Rattle.xp_relay.specs.StoredDirection.{Represents};
 ghost use Rattle.xp_relay.specs.steps.StoredDirection.{RepresentsTurn};
 ghost use Rattle.xp_relay.specs.Turns.{accepting, carries};
 
-use crate::data::Data;
+use crate::data::{Data, SequenceNumbers};
 use crate::direction_state::DirectionState;
 use crate::judged::Judged;
 use crate::moves::Moves;
@@ -19,22 +19,21 @@ use xp_packets::End;
 
 /// Decides on a data packet with these numbers and this many octets.
 pub(crate) fn judge<A: Allocator>(
-    ps: u8,
-    pr: u8,
+    numbers: SequenceNumbers,
     octets: usize,
     sent: &DirectionState<A>,
     received: &DirectionState<A>,
 ) -> Judged
-    ensures judged { (s r : Direction A) → Represents sent.now s → Represents received.now r → result ≡ judgement ps pr octets s r }
+    ensures judged { (s r : Direction A) → Represents sent.now s → Represents received.now r → result ≡ judgement numbers.ps numbers.pr octets s r }
     ensures room { result ≡ Judged.Accept → sent.now.out + length sent.now.held < sent.now.terms.window }
 {
     if received.owes() {
         return Judged::Discard;
     }
-    if !(ps == sent.next_number() && sent.has_room()) {
+    if !(numbers.ps == sent.next_number() && sent.has_room()) {
         return Judged::Reset(INVALID_SEND_NUMBER);
     }
-    if received.newly_acknowledged(pr).is_none() {
+    if received.newly_acknowledged(numbers.pr).is_none() {
         return Judged::Reset(INVALID_RECEIVE_NUMBER);
     }
     if octets > sent.most_octets() {
@@ -70,20 +69,19 @@ fn accept<A: Allocator>(
 pub(crate) fn carry<A: Allocator>(
     here: End,
     carried: Data<A>,
-    ps: u8,
-    pr: u8,
+    numbers: SequenceNumbers,
     sent: &mut DirectionState<A>,
     received: &mut DirectionState<A>,
     room: Moves<A>,
 ) -> Moves<A>
     requires empty { room.moves ≡ [] }
     requires space { 17 ≤ room.room }
-    ensures { (s r : Direction A) → Represents sent.old s → Represents received.old r → RepresentsTurn sent.new received.new result.moves (carries here carried ps pr s r) }
+    ensures { (s r : Direction A) → Represents sent.old s → Represents received.old r → RepresentsTurn sent.new received.new result.moves (carries here carried numbers.ps numbers.pr s r) }
 {
-    match judge(ps, pr, carried.octets.len(), sent, received) {
+    match judge(numbers, carried.octets.len(), sent, received) {
         Judged::Discard => room,
         Judged::Reset(diagnostic) => fail(here, diagnostic, sent, received, room),
-        Judged::Accept => match received.newly_acknowledged(pr) {
+        Judged::Accept => match received.newly_acknowledged(numbers.pr) {
             Some(more) => accept(here, carried, more, sent, received, room),
             None => room,
         },

@@ -13,7 +13,7 @@ use Rattle.xp_serve.specs.declared.serving.Ready.{Ready}
 
 -- The threads are given the first passes of all lines, the recorder has taken nothing, and there is room for what comes back.
 pub record AreReady {N : Type 0} (subs : Tables) (ready : Ready N) : Type 0 where
-  pub passes : AreFirst (line_count subs) (map (λ line. line.pass) ready.lines.items)
+  pub passes : AreFirst (line_count subs) (map (λ line. line.pass) ready.threads.lines.lines.items)
   pub recorder : ready.recorder ≡ record { seen = []; received = [] }
   pub room : (ready.room.items ≡ []) × (line_count subs ≤ vec_capacity ready.room)
   pub room_of_reasons : (ready.room_of_reasons.items ≡ []) × (line_count subs ≤ vec_capacity ready.room_of_reasons)

@@ -1,5 +1,5 @@
 -- What the code reads from a packet, in the terms of the definitions.
-use Rattle.xp_step.specs.declared.plan.received_packets.CallAccepted.{CallAccepted as KeptAnswer}
+use Rattle.xp_answer.specs.declared.answer.CallAccepted.{CallAccepted as KeptAnswer}
 use Rattle.xp_step.specs.declared.plan.received_packets.CallRequest.{CallRequest as KeptRequest}
 use Rattle.xp_step.specs.declared.plan.received_packets.ClearRequest.{ClearRequest as KeptClear}
 use Rattle.xp_step.specs.Table.{CallAccepted, CallRequest, ClearRequest}

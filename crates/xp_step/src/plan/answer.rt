@@ -19,14 +19,13 @@ ghost use Rattle.xp_subs.specs.Tables.{line_count};
 use super::Plan;
 use super::clearing::fail;
 use super::event_line::EventLine;
-use super::received_packets::CallAccepted;
 use super::send::send;
 use crate::outcome::Outcome;
 use crate::output::Buffer;
 use crate::records::Records;
 use crate::workspace::Workspace;
 use std::alloc::{AllocError, Allocator};
-use xp_answer::{Answer, Connection, examine};
+use xp_answer::{Answer, CallAccepted, Connection, examine};
 use xp_charge::Meter;
 use xp_machine::{Agreement, Change, LiveCall, RelayUpdate};
 use xp_relay::Terms;
@@ -36,7 +35,6 @@ use xp_subs::Subs;
 /// error.
 #[inline(never)]
 pub fn answer<A: Allocator + Copy>(
-    alloc: A,
     found: &EventLine<'_, A>,
     answer: &CallAccepted<'_, A>,
     workspace: &mut Workspace<A>,
@@ -47,19 +45,13 @@ pub fn answer<A: Allocator + Copy>(
     requires short { IsShort found.now.charged }
     ensures { (before : List (Entered A)) → HasTables found.now before → IsEventLine found.now before → IfOk result (PlansAnswer (event_line_context found.now before) (answer_of answer.now)) }
 {
+    let alloc = workspace.alloc;
     let Some(call) = found.machine.call_on(found.line) else {
         return Ok(Plan::none(alloc));
     };
     let address = found.in_force.address_of(found.line);
-    let outputs = workspace.buffer(alloc, 1)?;
-    match examine(
-        alloc,
-        &call.setup,
-        address,
-        &call.dialled,
-        answer.d,
-        answer.block,
-    )? {
+    let outputs = workspace.buffer(1)?;
+    match examine(alloc, &call.setup, address, &call.dialled, answer)? {
         Answer::Connected(connection) => {
             let agreement = agreement_of(found.moment, &connection);
             let meter = Meter::new(found.subs.segment_limit());

@@ -151,7 +151,6 @@ fn clear_both<A: Allocator + Copy>(
 /// Plans a clear request. It is confirmed at once (X.25 clause 4.1.7), and the line's call ends.
 #[inline(never)]
 pub fn confirm<A: Allocator + Copy>(
-    alloc: A,
     found: &EventLine<'_, A>,
     clear: &ClearRequest<'_, A>,
     workspace: &mut Workspace<A>,
@@ -159,7 +158,8 @@ pub fn confirm<A: Allocator + Copy>(
     requires { IsShort found.now.charged }
     ensures { (before : List (Entered A)) → IsEventLine found.now before → IfOk result (PlansClear (event_line_context found.now before) (clear_of clear.now)) }
 {
-    let outputs = workspace.buffer(alloc, 2)?;
+    let alloc = workspace.alloc;
+    let outputs = workspace.buffer(2)?;
     let cause = indicated_cause(clear.cause);
     let diagnostic = indicated_diagnostic(clear.diagnostic);
     let withdrawal = found.withdraw(NoCallState::IsFree, cause, diagnostic);

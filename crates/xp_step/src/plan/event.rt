@@ -40,7 +40,6 @@ use xp_past::Past;
 /// Plans what an event does. It fails only if memory is wanting.
 #[inline(always)]
 pub fn plan_of<A: Allocator + Copy>(
-    alloc: A,
     subs: &SubsInForce,
     machine: &Machine<A>,
     relays: &Relays<A>,
@@ -57,6 +56,7 @@ pub fn plan_of<A: Allocator + Copy>(
     requires carried { RelaysRepresentCalls subs.now.opening before.now.items machine.now relays.now }
     ensures { IfOk result (λ plan. Plans (step_context subs.now.opening before.now.items machine.now event.now.line event.now.moment) event.now.what (action_in (channel_of (state_at machine.now event.now.line)) event.now.what) plan) }
 {
+    let alloc = workspace.alloc;
     let line = event.line;
     let moment = event.moment;
     let opening = &subs.opening;
@@ -71,16 +71,16 @@ pub fn plan_of<A: Allocator + Copy>(
     let what = &event.what;
     match action_of(machine.line(line).state, what) {
         Action::Nothing => nothing(alloc, &found),
-        Action::Relayed => carry(alloc, &found, relays, what, workspace),
+        Action::Relayed => carry(&found, relays, what, workspace),
         Action::Rise => rise(alloc, &found),
         Action::Fall => fall(alloc, &found, what),
         Action::Free => free(alloc, &found),
         Action::Error(diagnostic) => fail(alloc, &found, diagnostic),
         Action::Expired => fail(alloc, &found, TIMER_EXPIRED_FOR_INCOMING_CALL),
-        Action::NewCall => new_call(alloc, &found, what, workspace),
-        Action::Collision => collision(alloc, &found, what, workspace),
-        Action::Answer => answered(alloc, &found, what, workspace),
-        Action::Confirm => cleared(alloc, &found, what, workspace),
+        Action::NewCall => new_call(&found, what, workspace),
+        Action::Collision => collision(&found, what, workspace),
+        Action::Answer => answered(&found, what, workspace),
+        Action::Confirm => cleared(&found, what, workspace),
     }
 }
 
@@ -94,7 +94,6 @@ fn nothing<A: Allocator + Copy>(alloc: A, _found: &EventLine<'_, A>) -> Result<P
 /// Plans a call request of a line that is in no call.
 #[inline(never)]
 fn new_call<A: Allocator + Copy>(
-    alloc: A,
     found: &EventLine<'_, A>,
     what: &What<A>,
     workspace: &mut Workspace<A>,
@@ -103,8 +102,8 @@ fn new_call<A: Allocator + Copy>(
     ensures { (before : List (Entered A)) → HasTables found.now before → IfOk result (Plans (event_line_context found.now before) what.now Requested) }
 {
     match request_in(what) {
-        None => nothing(alloc, found),
-        Some(call) => request(alloc, found, &call, Cancelled::none(), workspace),
+        None => nothing(workspace.alloc, found),
+        Some(call) => request(found, &call, Cancelled::none(), workspace),
     }
 }
 
@@ -112,7 +111,6 @@ fn new_call<A: Allocator + Copy>(
 #[cold]
 #[inline(never)]
 fn collision<A: Allocator + Copy>(
-    alloc: A,
     found: &EventLine<'_, A>,
     what: &What<A>,
     workspace: &mut Workspace<A>,
@@ -121,15 +119,14 @@ fn collision<A: Allocator + Copy>(
     ensures { (before : List (Entered A)) → HasTables found.now before → IsEventLine found.now before → IfOk result (Plans (event_line_context found.now before) what.now Collides) }
 {
     match request_in(what) {
-        None => nothing(alloc, found),
-        Some(call) => request(alloc, found, &call, Cancelled::by(found), workspace),
+        None => nothing(workspace.alloc, found),
+        Some(call) => request(found, &call, Cancelled::by(found), workspace),
     }
 }
 
 /// Plans the answer to the incoming call of its line.
 #[inline(never)]
 fn answered<A: Allocator + Copy>(
-    alloc: A,
     found: &EventLine<'_, A>,
     what: &What<A>,
     workspace: &mut Workspace<A>,
@@ -141,15 +138,14 @@ fn answered<A: Allocator + Copy>(
     ensures { (before : List (Entered A)) → HasTables found.now before → IsEventLine found.now before → IfOk result (Plans (event_line_context found.now before) what.now Answers) }
 {
     match accepted_in(what) {
-        None => nothing(alloc, found),
-        Some(accepted) => answer(alloc, found, &accepted, workspace),
+        None => nothing(workspace.alloc, found),
+        Some(accepted) => answer(found, &accepted, workspace),
     }
 }
 
 /// Plans a clear request.
 #[inline(never)]
 fn cleared<A: Allocator + Copy>(
-    alloc: A,
     found: &EventLine<'_, A>,
     what: &What<A>,
     workspace: &mut Workspace<A>,
@@ -158,7 +154,7 @@ fn cleared<A: Allocator + Copy>(
     ensures { (before : List (Entered A)) → IsEventLine found.now before → IfOk result (Plans (event_line_context found.now before) what.now Clears) }
 {
     match clear_in(what) {
-        None => nothing(alloc, found),
-        Some(clear) => confirm(alloc, found, &clear, workspace),
+        None => nothing(workspace.alloc, found),
+        Some(clear) => confirm(found, &clear, workspace),
     }
 }

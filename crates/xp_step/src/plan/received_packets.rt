@@ -6,6 +6,7 @@ ghost use Rattle.xp_step.specs.Table.{accepted_in as answer_in, clear_in as clea
 
 use crate::event::What;
 use std::alloc::Allocator;
+use xp_answer::CallAccepted;
 use xp_packets::{Block, Packet};
 
 /// A call request as it came.
@@ -14,13 +15,6 @@ pub struct CallRequest<'a, A: Allocator> {
     pub identifier: u16,
     pub d: bool,
     pub block: &'a Block<A>,
-}
-
-/// A call accepted packet.
-#[derive(Drop)]
-pub struct CallAccepted<'a, A: Allocator> {
-    pub d: bool,
-    pub block: &'a Option<Block<A>>,
 }
 
 /// A clear request.

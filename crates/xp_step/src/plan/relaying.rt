@@ -30,7 +30,6 @@ const MOST_MOVES: usize = 17;
 /// on (X.25 clauses 4.3 and 4.4). Data that would go past the segment limit clears the call.
 #[inline(never)]
 pub fn carry<A: Allocator + Copy>(
-    alloc: A,
     found: &EventLine<'_, A>,
     relays: &Relays<A>,
     what: &What<A>,
@@ -39,6 +38,7 @@ pub fn carry<A: Allocator + Copy>(
     requires { IsShort found.now.charged }
     ensures { (before : List (Entered A)) → IsEventLine found.now before → RelaysRepresentCalls found.now.subs.now before found.now.machine.now relays.now → IfOk result (PlansRelayed (event_line_context found.now before) what.now) }
 {
+    let alloc = workspace.alloc;
     let Some(MeteredCall { call, meter: _ }) = found.charged else {
         return Ok(Plan::none(alloc));
     };
@@ -58,7 +58,7 @@ pub fn carry<A: Allocator + Copy>(
     let room = workspace.relays.moves(alloc, MOST_MOVES)?;
     let mut metered = workspace.relays.copy_of(alloc, metered)?;
     let mut moves = metered.take(here, packet, room)?;
-    let outputs = send_all(alloc, found.machine, call, &mut moves, workspace)?;
+    let outputs = send_all(found.machine, call, &mut moves, workspace)?;
     workspace.relays.keep_moves(moves);
     metered.set_meter(meter);
     let caller = call.caller;
@@ -77,8 +77,7 @@ fn packet_in<'a, A: Allocator>(what: &'a What<A>) -> Option<&'a Packet<A>>
 }
 
 /// Takes out each move, and sends its packet to the call's line at the move's end.
-fn send_all<A: Allocator>(
-    alloc: A,
+fn send_all<A: Allocator + Copy>(
     machine: &Machine<A>,
     call: &LiveCall,
     moves: &mut Moves<A>,
@@ -86,7 +85,7 @@ fn send_all<A: Allocator>(
 ) -> Result<Buffer<A>, AllocError>
     ensures { IfOk result (λ buffer. buffer.outputs ≡ map (send_on machine.now (call_of_stored call.now)) moves.old.moves) }
 {
-    let mut outputs = workspace.buffer(alloc, moves.as_slice().len())?;
+    let mut outputs = workspace.buffer(moves.as_slice().len())?;
     while let Some(carried) = moves.take_first() {
         let line = call.line_at(carried.side);
         outputs = outputs.with(send(machine, line, carried.packet));

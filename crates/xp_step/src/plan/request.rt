@@ -101,9 +101,23 @@ impl<A: Allocator> Cancelled<A> {
     }
 }
 
+/// The incoming call that is put to a line.
+#[derive(Drop)]
+struct Incoming<A: Allocator> {
+    line: LineNo,
+    setup: Setup,
+    packet: Packet<A>,
+}
+
+/// Room for what a plan puts out, and for its records.
+#[derive(Drop)]
+struct Room<A: Allocator> {
+    outputs: Buffer<A>,
+    records: Records<A>,
+}
+
 /// Decides a call request. The call is put to the line that is taken, or it is refused.
 pub fn request<A: Allocator + Copy>(
-    alloc: A,
     found: &EventLine<'_, A>,
     request: &CallRequest<'_, A>,
     cancelled: Cancelled<A>,
@@ -113,12 +127,14 @@ pub fn request<A: Allocator + Copy>(
     ensures { (before : List (Entered A)) (ended : List Changing) (far : List (Sent A)) → HasTables found.now before → IsCancelled cancelled (event_line_context found.now before) ended far
         → IfOk result (PlansRequest (event_line_context found.now before) (request_of request.now) ended far) }
 {
+    let alloc = workspace.alloc;
     let (subs, caller) = (found.in_force, found.line);
-    let outputs = workspace.buffer(alloc, count(&cancelled.told) + 1)?;
+    let outputs = workspace.buffer(count(&cancelled.told) + 1)?;
     match decide(alloc, subs, found.machine, caller, request.block)? {
         Verdict::Refuse(why) => {
             let records = Records::with_room(alloc, count(&cancelled.charged) + 1)?;
-            Ok(refused(found, request, why, cancelled, outputs, records))
+            let room = Room { outputs, records };
+            Ok(refused(found, request, why, cancelled, room))
         }
         Verdict::Take(ring) => {
             let records = Records::with_room(alloc, count(&cancelled.charged))?;
@@ -126,9 +142,13 @@ pub fn request<A: Allocator + Copy>(
             let setup = Setup::of(&ring);
             let line = ring.line;
             let packet = incoming_call(alloc, &ring, called, calling, request.d, request.block)?;
-            Ok(put(
-                found, request, line, setup, packet, cancelled, outputs, records,
-            ))
+            let incoming = Incoming {
+                line,
+                setup,
+                packet,
+            };
+            let room = Room { outputs, records };
+            Ok(put(found, request, incoming, cancelled, room))
         }
     }
 }
@@ -148,23 +168,26 @@ fn count<T>(some: &Option<T>) -> usize
 fn put<A: Allocator>(
     found: &EventLine<'_, A>,
     request: &CallRequest<'_, A>,
-    called: LineNo,
-    setup: Setup,
-    packet: Packet<A>,
+    incoming: Incoming<A>,
     cancelled: Cancelled<A>,
-    outputs: Buffer<A>,
-    records: Records<A>,
+    room: Room<A>,
 ) -> Plan<A>
-    requires empty { outputs.outputs ≡ [] }
-    requires room { length (option_to_list cancelled.told) < outputs.room }
-    requires none { records.items ≡ [] }
-    requires records { length (option_to_list cancelled.charged) ≤ records.room }
-    ensures outcome { result.outcome ≡ Outcome.Put called setup }
+    requires empty { room.outputs.outputs ≡ [] }
+    requires room { length (option_to_list cancelled.told) < room.outputs.room }
+    requires none { room.records.items ≡ [] }
+    requires records { length (option_to_list cancelled.charged) ≤ room.records.room }
+    ensures outcome { result.outcome ≡ Outcome.Put incoming.line incoming.setup }
     ensures quiet { result.relay_update ≡ None }
     ensures planned { (before : List (Entered A)) (ended : List Changing) (far : List (Sent A)) → IsCancelled cancelled (event_line_context found.now before) ended far
-        → IsPlan result (event_line_context found.now before) (outputs_of_incoming_call found.now.machine.now far called packet)
-        (ended ++ Begins found.now.line request.now.identifier called request.now.block.now.called setup found.now.moment ∷ []) }
+        → IsPlan result (event_line_context found.now before) (outputs_of_incoming_call found.now.machine.now far incoming.line incoming.packet)
+        (ended ++ Begins found.now.line request.now.identifier incoming.line request.now.block.now.called incoming.setup found.now.moment ∷ []) }
 {
+    let Incoming {
+        line: called,
+        setup,
+        packet,
+    } = incoming;
+    let Room { outputs, records } = room;
     let begins = Change::Begin {
         caller: found.line,
         identifier: request.identifier,
@@ -194,19 +217,19 @@ fn refused<A: Allocator>(
     request: &CallRequest<'_, A>,
     why: Refusal,
     cancelled: Cancelled<A>,
-    outputs: Buffer<A>,
-    records: Records<A>,
+    room: Room<A>,
 ) -> Plan<A>
-    requires empty { outputs.outputs ≡ [] }
-    requires room { length (option_to_list cancelled.told) < outputs.room }
-    requires none { records.items ≡ [] }
-    requires records { length (option_to_list cancelled.charged) < records.room }
+    requires empty { room.outputs.outputs ≡ [] }
+    requires room { length (option_to_list cancelled.told) < room.outputs.room }
+    requires none { room.records.items ≡ [] }
+    requires records { length (option_to_list cancelled.charged) < room.records.room }
     ensures outcome { result.outcome ≡ Outcome.Refused why }
     ensures quiet { result.relay_update ≡ None }
     ensures planned { (before : List (Entered A)) (ended : List Changing) (far : List (Sent A)) → IsCancelled cancelled (event_line_context found.now before) ended far
         → IsPlan result (event_line_context found.now before) (outputs_of_refusal found.now.machine.now far found.now.line request.now.identifier why)
         (ended ++ IsRefused found.now.line request.now.identifier request.now.block.now.called why ∷ []) }
 {
+    let Room { outputs, records } = room;
     let (caller, identifier) = (found.line, request.identifier);
     let indication = clear_indication(why.cause, why.diagnostic);
     let own = send_as(found.machine, caller, identifier, indication);

@@ -3,7 +3,7 @@ use Rattle.xp_core.proofs.stalling.fall.Goals as goal
 
 pub returns-clause-fallen : goal.returns-clause-fallen
 returns-clause-fallen g c =
-    let found = c.charged_on-charged.ensures.charged c.args.moment in
+    let found = c.charged_on.ensures.charged c.args.event.now.moment in
     let put = c.tell-outputs.ensures c.args.before.now.items found in
     record {
       plain = refl;

@@ -6,11 +6,11 @@ pub loop-init : goal.loop-init
 loop-init g c = record {
   lines = c.requires.lines;
   tables = c.requires.tables;
-  hands = nothing_handed _ _ c.args.recorder c.args.sink (g.met.S.RecordSink.keeps_itself c.args.sink);
+  hands = nothing_handed _ _ c.args.path.recorder c.args.path.sink (g.met.S.RecordSink.keeps_itself c.args.path.sink);
 }
 
 pub hand_over-handed-requires-clause-received : goal.hand_over-handed-requires-clause-received
-hand_over-handed-requires-clause-received g c = still_received _ _ c.args.recorder c.args.sink _ _ c.requires.received c.loop.invariant.hands
+hand_over-handed-requires-clause-received g c = still_received _ _ c.args.path.recorder c.args.path.sink _ _ c.requires.received c.loop.invariant.hands
 
 pub loop-preserved : goal.loop-preserved
 loop-preserved g c = record {

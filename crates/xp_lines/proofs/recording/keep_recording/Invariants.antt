@@ -7,5 +7,5 @@ abbrev pub invariant-loop : goal.invariant-loop
 invariant-loop g l = record {
   lines : g.S.RecordSink.lines l.sink ≡ line_count g.N.Name.subs;
   tables : g.S.RecordSink.tables l.sink ≡ g.N.Name.subs;
-  hands : HandsOn g.S.RecordSink.received g.S.RecordSink.keeps l.fn.recorder l.fn.sink l.recorder l.sink;
+  hands : HandsOn g.S.RecordSink.received g.S.RecordSink.keeps l.fn.path.recorder l.fn.path.sink l.recorder l.sink;
 }

@@ -14,7 +14,7 @@ returns g c =
     let capacity = room.capacity in
     let other = reasons.capacity in
     record {
-      passes = subst (AreFirst (line_count g.N.Name.subs)) (sym c.in_ok-lines.ensures.passes) c.in_ok-exchange.ensures.passes;
+      passes = subst (AreFirst (line_count g.N.Name.subs)) (sym c.in_ok-threads.ensures.passes) c.in_ok-exchange.ensures.passes;
       recorder = c.in_ok-exchange.ensures.recorder;
       room = (room.items, omega (arith, first, all, count, capacity));
       room_of_reasons = (reasons.items, omega (arith, first, all, also, other));

@@ -9,12 +9,12 @@ serve_with_door-requires-clause-received g c 魏s within = c.requires.received 鈭
 
 pub close-requires-clause-served : goal.close-requires-clause-served
 close-requires-clause-served g c =
-    were_served g.N.Name.subs _ (map (位 line. line.pass) c.in-Ok.ready.lines.items) (map (位 end. end.pass) c.in-Ok-serve_with_door.lines.ends.items)
+    were_served g.N.Name.subs _ (map (位 line. line.pass) c.in-Ok.ready.threads.lines.lines.items) (map (位 end. end.pass) c.in-Ok-serve_with_door.lines.ends.items)
     c.in-Ok.ensures.passes c.in-Ok-serve_with_door.ensures.served
 
 pub close-requires-clause-stopped : goal.close-requires-clause-stopped
 close-requires-clause-stopped g c =
-    were_stopped g.N.Name.subs _ (map (位 line. line.pass) c.in-Ok.ready.lines.items) c.in-Ok-serve_with_door.lines.ends.items
+    were_stopped g.N.Name.subs _ (map (位 line. line.pass) c.in-Ok.ready.threads.lines.lines.items) c.in-Ok-serve_with_door.lines.ends.items
     c.in-Ok.ensures.passes c.in-Ok-serve_with_door.ensures.served c.in-Ok-serve_with_door.ensures.stopped
 
 pub returns-in-Ok-serve_with_door-clause-received : goal.returns-in-Ok-serve_with_door-clause-received

@@ -15,11 +15,11 @@ invariant_of-self-2 g c = All-set IsBetweenFrames c.self.inside.streams.items c.
 pub returns-clause-heard : goal.returns-clause-heard
 returns-clause-heard g c =
     let within = within_rests c.self.inside.streams.items _ _ c.from.result c.self.view_is c.from.ensures c.requires in
-    subst (λ unfinished. ReadsEvents c.args.modulus c.args.line c.args.moment (unfinished_at unfinished c.args.line) c.args.octets.now c.read_events.new.events.items (unfinished_at (rests (set c.self.inside.streams.items c.from.result c.read_events.new.stream)) c.args.line)) c.self.view_is
-    (heard_at c.args.modulus c.args.moment c.self.inside.streams.items c.args.line c.from.result c.index_mut-stream.result.now c.read_events.new.stream _ _ within c.from.ensures c.index_mut-stream.ensures.value c.in_default.ensures.heard)
+    subst (λ unfinished. ReadsEvents c.args.arrival.modulus c.args.arrival.line c.args.arrival.moment (unfinished_at unfinished c.args.arrival.line) c.args.octets.now c.read_events.new.events.items (unfinished_at (rests (set c.self.inside.streams.items c.from.result c.read_events.new.stream)) c.args.arrival.line)) c.self.view_is
+    (heard_at c.args.arrival.modulus c.args.arrival.moment c.self.inside.streams.items c.args.arrival.line c.from.result c.index_mut-stream.result.now c.read_events.new.stream _ _ within c.from.ensures c.index_mut-stream.ensures.value c.in_default.ensures.heard)
 
 pub returns-clause-kept : goal.returns-clause-kept
 returns-clause-kept g c =
     let within = within_rests c.self.inside.streams.items _ _ c.from.result c.self.view_is c.from.ensures c.requires in
-    subst (λ unfinished. rests (set c.self.inside.streams.items c.from.result c.read_events.new.stream) ≡ set unfinished c.args.line (unfinished_at (rests (set c.self.inside.streams.items c.from.result c.read_events.new.stream)) c.args.line)) c.self.view_is
-    (kept_at c.self.inside.streams.items c.args.line c.from.result c.read_events.new.stream within c.from.ensures)
+    subst (λ unfinished. rests (set c.self.inside.streams.items c.from.result c.read_events.new.stream) ≡ set unfinished c.args.arrival.line (unfinished_at (rests (set c.self.inside.streams.items c.from.result c.read_events.new.stream)) c.args.arrival.line)) c.self.view_is
+    (kept_at c.self.inside.streams.items c.args.arrival.line c.from.result c.read_events.new.stream within c.from.ensures)

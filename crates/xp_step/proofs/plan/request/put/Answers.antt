@@ -11,7 +11,7 @@ pub returns-clause-planned : goal.returns-clause-planned
 returns-clause-planned g c before ended far ends =
     let line = c.args.found.now.line in
     planned c.changing.result (event_line_context c.args.found.now before) c.args.cancelled ended far
-    (kept.Begin line c.args.request.now.identifier c.args.called c.args.request.now.block.now.called c.args.setup c.args.found.now.moment)
-    (Begins line c.args.request.now.identifier c.args.called c.args.request.now.block.now.called c.args.setup c.args.found.now.moment)
-    [] (send_as c.args.found.now.machine.now c.args.called INITIAL_IDENTIFIER c.args.packet ∷ []) [] ends
+    (kept.Begin line c.args.request.now.identifier c.args.incoming.line c.args.request.now.block.now.called c.args.incoming.setup c.args.found.now.moment)
+    (Begins line c.args.request.now.identifier c.args.incoming.line c.args.request.now.block.now.called c.args.incoming.setup c.args.found.now.moment)
+    [] (send_as c.args.found.now.machine.now c.args.incoming.line INITIAL_IDENTIFIER c.args.incoming.packet ∷ []) [] ends
     (search rules) (search rules) (search rules) (search rules) (λ w. refl) refl

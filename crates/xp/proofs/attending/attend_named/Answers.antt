@@ -1,6 +1,6 @@
 use Rattle.std.proofs.Common.{subst}
 use Rattle.xp_serve.specs.Serving.{Serves}
-use Rattle.xp.proofs.serving.attend_named.Goals as goal
+use Rattle.xp.proofs.attending.attend_named.Goals as goal
 
 -- the keeper with which serving began is this one
 pub returns-in_ok-watch-in-None : goal.returns-in_ok-watch-in-None

@@ -1,6 +1,6 @@
 use Rattle.std.proofs.Common.{IfOk, subst}
 use Rattle.xp_serve.specs.Serving.{Serves}
-use Rattle.xp.proofs.serving.attend_with_console.Goals as goal
+use Rattle.xp.proofs.attending.attend_with_console.Goals as goal
 
 -- the keeper with which serving began is this one
 pub returns : goal.returns

@@ -1,5 +1,5 @@
 use Rattle.std.proofs.Common.{◌≡◌, IfSome, subst, sym}
-use Rattle.xp.proofs.serving.attend.Goals as goal
+use Rattle.xp.proofs.attending.attend.Goals as goal
 
 -- what keeps the live calls is what was beside the lines
 pub attend_named-requires-clause-live : goal.attend_named-requires-clause-live
