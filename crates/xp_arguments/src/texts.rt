@@ -1,7 +1,7 @@
 //! What the help of the program says, and its version.
 
 /// The version, which is the newest heading of CHANGELOG.md.
-pub(crate) const VERSION: &str = "2026-11-30";
+pub(crate) const VERSION: &str = "2026-12-01";
 
 pub(crate) const ABOUT: &str = "The call-control exchange of an X.25 packet network.";
 

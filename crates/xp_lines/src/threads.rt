@@ -74,8 +74,9 @@ type Begun<N, P, C> = Result<
 >;
 
 /// Serves all lines until all have ended, or until these limits: the most turns of each line, and the number of charging records at
-/// which the exchange is halted. There is a thread for each poller, how many the limits say is not looked at. If a thread cannot be
-/// started, or there is none for a line, the exchange is halted. The ends are in the order of the lines.
+/// which the exchange is halted. There is a thread for each poller, which serves as many of the next lines as the poller says; how many
+/// threads the limits ask for is not looked at. If a thread cannot be started, or there is none for a line, the exchange is halted. The
+/// ends are in the order of the lines.
 ///
 /// The recorder takes the charging records of calls as they end, and the sink is given them: before, it was given those that the
 /// recorder took before. It is given the rest once all lines have ended; those that no memory could be had for stay with the
