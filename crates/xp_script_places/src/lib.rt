@@ -12,4 +12,4 @@ mod wanted;
 pub use kept_lines::KeptLines;
 pub use kept_script::KeptScript;
 pub use refused::{refused_lines, refused_tables};
-pub use wanted::{wanted_at, wanted_in};
+pub use wanted::wanted_in;

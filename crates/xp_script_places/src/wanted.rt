@@ -8,34 +8,11 @@ use std::fmt::Write;
 use xp_script::{MAX_LINE_OCTETS, NamedTables};
 use xp_subs::Subs;
 
-/// What was wanted at a line, where it is no line of a script while these subscriptions are in force, as one line without its end:
-/// `no line is named "x9"`. Lines may bring the named subscriptions into force. Empty where it is a line of a script.
+/// What was wanted at the faulty line of this number, while these subscriptions are in force, as one line without its end:
+/// `no line is named "x9"`. Lines may bring the named subscriptions into force. Where the lines were not counted, the faulty line is the
+/// first of those that are kept which is no line of a script. Empty where it is not kept.
 ///
 /// What is told is found by reading the line again with a part of it changed. No contract says what the text tells.
-///
-/// # Errors
-///
-/// An allocation failed.
-pub fn wanted_at(
-    alloc: Global,
-    force: &Subs,
-    named: &[NamedTables<'_>],
-    line: &[u8],
-) -> Result<String, AllocError> {
-    let trial = Trial {
-        alloc,
-        subs: force,
-        named,
-    };
-    let mut told = String::new(alloc);
-    if !trial.is_line(line)? {
-        push_wanted(trial, &mut told, line)?;
-    }
-    Ok(told)
-}
-
-/// What was wanted at the faulty line of this number, where these subscriptions are in force at it: as `wanted_at` tells. Where the lines
-/// were not counted, the faulty line is the first of those that are kept which is no line of a script. Empty where it is not kept.
 ///
 /// # Errors
 ///
@@ -60,6 +37,25 @@ pub fn wanted_in(
         }
     }
     Ok(String::new(alloc))
+}
+
+/// What was wanted at a line while these subscriptions are in force. Empty where it is a line of a script.
+fn wanted_at(
+    alloc: Global,
+    force: &Subs,
+    named: &[NamedTables<'_>],
+    line: &[u8],
+) -> Result<String, AllocError> {
+    let trial = Trial {
+        alloc,
+        subs: force,
+        named,
+    };
+    let mut told = String::new(alloc);
+    if !trial.is_line(line)? {
+        push_wanted(trial, &mut told, line)?;
+    }
+    Ok(told)
 }
 
 /// What was wanted at a faulty line.
