@@ -42,6 +42,7 @@ SCRIPTS = [
     Script("windows.py", "--rounds 2 --step 32", "each window of a call between lines of either modulus", 30, ""),
     Script("interrupted.py", "", "a replay whose every read is interrupted", 20, proved_only=True),
     Script("pieces.py", "", "scripts that come in pieces: what is told of a faulty line", 20),
+    Script("failing.py", "--jobs 2", "standard input and outputs that fail at each of their calls", 60),
     Script("explain.py", "--requests 200 --matrices 1 --jobs 2", "what explain says of random requests is what a replay does, and the matrix what explain says", 80,
            "--requests 1000 --matrices 10 --jobs 2"),
     Script("words.py", "", "the words of each row say what its octets say", 60),

@@ -20,7 +20,6 @@ use std::time::Clock;
 use xp_arguments::ServeOrder;
 use xp_clock::WallClock;
 use xp_keeping::{OperatorLog, RecordKeeper};
-use xp_limits::Limits;
 use xp_live::LiveKeeper;
 use xp_observer::{BoardName, StatusBoard};
 use xp_readiness::{Failure, Tracing, opening};
@@ -69,31 +68,110 @@ pub(crate) fn attend<
     requires new { K.received keeper ≡ [] }
     ensures { IfOk result (λ end. Serves K.kept K.keeps subs keeper end.keeper end.outcome) }
 {
+    let prepared = prepare(rt, order, clock, &subs, &beside.tracing)?;
+    let (console, terms, watching) = prepared.watching(rt, order, clock, beside);
+    attend_named::<Brand, R, K>(rt, console, terms, watching, subs, keeper)
+}
+
+/// What is made before the lines are served.
+struct Prepared {
+    notices: Arc<Notices>,
+    terms: ServingTerms,
+    /// What the lines are connected by, for subscriptions that come into force later.
+    places: Arc<LinePlaces>,
+    /// The console, which listens, if there is to be one.
+    console: Option<ServedConsole>,
+    /// What is told before all else.
+    opening: String,
+}
+
+impl Drop for Prepared {
+    fn drop(self) {
+        let Prepared {
+            notices: _,
+            terms: _,
+            places: _,
+            console: _,
+            opening: _,
+        } = self;
+    }
+}
+
+/// Makes what has to be there before the lines are served. The console listens then.
+fn prepare<
+    R: AllocGlobal
+        + Clock
+        + Copy
+        + Drop
+        + Log
+        + Net<Listener = TcpListener, Stream = TcpStream>
+        + RandomSource
+        + Send
+        + Sync
+        + Threads
+        + Wait
+        + 'static,
+>(
+    rt: &R,
+    order: &ServeOrder<'_>,
+    clock: WallClock,
+    subs: &Subs,
+    tracing: &Tracing<R>,
+) -> Result<Prepared, Failure> {
     let alloc = rt.alloc();
-    let (tracing, live, partial_records, file) = beside.into_parts();
     let notices = tracing.notices(alloc, clock.start)?;
     let notices = Arc::new(alloc, notices).map_err(|_| TaskFailure::Memory)?;
     let places = LinePlaces::new(Arc::try_clone(&notices)?);
     let places = Arc::new(alloc, places).map_err(|_| TaskFailure::Memory)?;
-    let renewal = Renewal::new(file, *rt, Arc::try_clone(&places)?);
+    let terms = ServingTerms {
+        limits: order.limits,
+        places: Arc::try_clone(&places)?,
+    };
     let console = match order.console {
         Some(address) => Some(ServedConsole::listen(rt, address)?),
         None => None,
     };
-    let watching = Watching {
-        opening: opening(alloc, order, &subs)?,
-        stop: order.until_eof.then_some(StopInput::default()),
-        log: OperatorLog::new(*rt, order.quiet),
-        limits: order.limits,
-        clock,
+    Ok(Prepared {
+        opening: opening(alloc, order, subs)?,
         notices,
+        terms,
         places,
-        trace: tracing.thread,
-        live,
-        partial_records,
-        renewal,
-    };
-    attend_named::<Brand, R, K>(rt, console, watching, subs, keeper)
+        console,
+    })
+}
+
+impl Prepared {
+    /// The console, the terms, and what the lines are watched with.
+    fn watching<R: Copy + Drop + Log + Wait>(
+        self,
+        rt: &R,
+        order: &ServeOrder<'_>,
+        clock: WallClock,
+        beside: Beside<R>,
+    ) -> (Option<ServedConsole>, ServingTerms, Watching<R>)
+        ensures { result.2.live ≡ beside.live }
+    {
+        let Prepared {
+            notices,
+            terms,
+            places,
+            console,
+            opening,
+        } = self;
+        let (tracing, live, partial_records, file) = beside.into_parts();
+        let watching = Watching {
+            opening,
+            stop: order.until_eof.then_some(StopInput::default()),
+            log: OperatorLog::new(*rt, order.quiet),
+            clock,
+            notices,
+            trace: tracing.thread,
+            live,
+            partial_records,
+            renewal: Renewal::new(file, *rt, places),
+        };
+        (console, terms, watching)
+    }
 }
 
 /// What the lines are watched with.
@@ -103,11 +181,8 @@ struct Watching<R: Log + Wait> {
     /// The input whose end asks serving to stop, if there is one.
     stop: Option<StopInput>,
     log: OperatorLog<R>,
-    limits: Limits,
     clock: WallClock,
     notices: Arc<Notices>,
-    /// What the lines are connected by.
-    places: Arc<LinePlaces>,
     trace: Option<TraceThread<R>>,
     live: Option<LiveKeeper<R>>,
     partial_records: u64,
@@ -120,10 +195,8 @@ impl<R: Drop + Log + Wait> Drop for Watching<R> {
             opening: _,
             stop: _,
             log: _,
-            limits: _,
             clock: _,
             notices: _,
-            places: _,
             trace: _,
             live: _,
             partial_records: _,
@@ -142,14 +215,6 @@ impl<
         + Wait
         + 'static,
 > Watching<R> {
-    /// In which places the lines are served, and until when.
-    fn terms(&self) -> Result<ServingTerms, AllocError> {
-        Ok(ServingTerms {
-            limits: self.limits,
-            places: Arc::try_clone(&self.places)?,
-        })
-    }
-
     /// What feeds the console over this board.
     fn feed<B: BoardName>(
         &self,
@@ -179,10 +244,8 @@ impl<
             opening,
             stop,
             log,
-            limits: _,
             clock,
             notices,
-            places: _,
             trace,
             live,
             partial_records: _,
@@ -215,6 +278,7 @@ fn attend_named<
 >(
     rt: &R,
     console: Option<ServedConsole>,
+    terms: ServingTerms,
     watching: Watching<R>,
     subs: Subs,
     keeper: K,
@@ -225,14 +289,14 @@ fn attend_named<
     requires new { K.received keeper ≡ [] }
     ensures { IfOk result (λ end. Serves K.kept K.keeps subs keeper end.keeper end.outcome) }
 {
-    let alloc = rt.alloc();
-    let terms = watching.terms()?;
     match console {
-        Some(console) => attend_with_console::<B, R, K>(rt, console, watching, subs, keeper),
+        Some(console) => {
+            attend_with_console::<B, R, K>(rt, console, terms, watching, subs, keeper)
+        }
         None => {
-            let watch = watching.watch(alloc, NoConsole::<B>::default())?;
+            let watch = watching.watch(rt.alloc(), NoConsole::<B>::default())?;
             let attending = Attending::new(keeper, watch);
-            Ok(serve_attended(rt, alloc, subs, terms, attending))
+            Ok(serve_attended(rt, rt.alloc(), subs, terms, attending))
         }
     }
 }
@@ -255,6 +319,7 @@ fn attend_with_console<
 >(
     rt: &R,
     console: ServedConsole,
+    terms: ServingTerms,
     watching: Watching<R>,
     subs: Subs,
     keeper: K,
@@ -266,7 +331,6 @@ fn attend_with_console<
     ensures { IfOk result (λ end. Serves K.kept K.keeps subs keeper end.keeper end.outcome) }
 {
     let alloc = rt.alloc();
-    let terms = watching.terms()?;
     let board = Arc::new(alloc, StatusBoard::<B>::new()).map_err(|_| TaskFailure::Memory)?;
     let feed = watching.feed(alloc, &subs, &board)?;
     let watch = watching.watch(alloc, feed)?;

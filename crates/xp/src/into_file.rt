@@ -21,7 +21,7 @@ use std::sync::Wait;
 use std::thread::Threads;
 use std::time::Clock;
 use xp_arguments::ServeOrder;
-use xp_cdr::{DetailFile, ExchangeName, ExchangeRun, RecordFile, path_in};
+use xp_cdr::{DetailFile, ExchangeName, ExchangeRun, Opened, RecordFile, path_in};
 use xp_clock::WallClock;
 use xp_days::{DayFiles, day_of, file_before, newest_file, open_newest};
 use xp_keeping::{DetailKeeper, OperatorLog, PatientOutput, QueuedKeeper, start_details};
@@ -65,18 +65,13 @@ pub(crate) fn serve_into_file<
         earlier: None,
     };
     let live = begin_live_of(rt, host, order, clock, &before, &mut file)?;
-    let run = run_of(rt, order, clock, before.last_started(live.left), &subs.own);
-    let log = OperatorLog::new(host, order.quiet);
     let details = DetailsOfRun {
         file,
-        run,
-        log,
+        run: run_of(rt, order, clock, before.last_started(live.left), &subs.own),
+        log: OperatorLog::new(host, order.quiet),
         live,
     };
-    let mut output = PatientOutput::new(host);
-    let told = serve_with_details(rt, order, clock, subs, details, &mut output)?;
-    told?;
-    Ok(())
+    serve_run(rt, host, order, clock, subs, details)
 }
 
 /// Serves the lines as `serve_into_file` does, with a file of call detail records for each day in this directory.
@@ -107,27 +102,104 @@ pub(crate) fn serve_into_directory<
 {
     let today = day_of(clock.seconds());
     let newest = newest_file(&host, path, today)?;
-    let earlier = match file_before(&host, path, newest.day)? {
-        Some(file) => Some(file.path),
-        None => None,
-    };
-    let live = path_in(rt.alloc(), path, NAME_OF_LIVE)?;
-    let directory = path.to_string(rt.alloc())?;
+    let paths = PathsOfDirectory::of(rt, host, path, newest.day)?;
     let (mut file, opened) = open_newest(host, path, &newest, today)?;
-    let before = RunBefore {
-        opened,
-        live,
-        earlier,
-    };
+    let (directory, before) = paths.with(opened);
     let live = begin_live_of(rt, host, order, clock, &before, &mut file)?;
-    let run = run_of(rt, order, clock, before.last_started(live.left), &subs.own);
-    let log = OperatorLog::new(host, order.quiet);
     let details = DetailsOfRun {
         file: DayFiles::new(directory, newest.day, file),
-        run,
-        log,
+        run: run_of(rt, order, clock, before.last_started(live.left), &subs.own),
+        log: OperatorLog::new(host, order.quiet),
         live,
     };
+    serve_run(rt, host, order, clock, subs, details)
+}
+
+/// What is in a directory of files of days, by its paths.
+struct PathsOfDirectory {
+    directory: String,
+    /// The file of live calls.
+    live: String,
+    /// The file of call detail records before the newest one, if there is one.
+    earlier: Option<String>,
+}
+
+impl Drop for PathsOfDirectory {
+    fn drop(self) {
+        let PathsOfDirectory {
+            directory: _,
+            live: _,
+            earlier: _,
+        } = self;
+    }
+}
+
+impl PathsOfDirectory {
+    /// The paths in this directory, whose newest file is of this day.
+    fn of<R: AllocGlobal>(
+        rt: &R,
+        host: HostRuntime,
+        path: &str,
+        newest: u64,
+    ) -> Result<PathsOfDirectory, Failure> {
+        let earlier = match file_before(&host, path, newest)? {
+            Some(file) => Some(file.path),
+            None => None,
+        };
+        Ok(PathsOfDirectory {
+            live: path_in(rt.alloc(), path, NAME_OF_LIVE)?,
+            directory: path.to_string(rt.alloc())?,
+            earlier,
+        })
+    }
+
+    /// The directory, and what the run before left there, where its newest file was found so.
+    fn with(self, opened: Opened) -> (String, RunBefore) {
+        let PathsOfDirectory {
+            directory,
+            live,
+            earlier,
+        } = self;
+        let before = RunBefore {
+            opened,
+            live,
+            earlier,
+        };
+        (directory, before)
+    }
+}
+
+/// Serves the lines, and keeps their charging records with these.
+fn serve_run<
+    R: AllocGlobal
+        + Clock
+        + Copy
+        + Drop
+        + Files<File = File>
+        + Log
+        + Net<Listener = TcpListener, Stream = TcpStream>
+        + RandomSource
+        + Send
+        + Sync
+        + Threads
+        + Wait
+        + 'static,
+    F: RecordFile + Send + 'static,
+>(
+    rt: &R,
+    host: HostRuntime,
+    order: &ServeOrder<'_>,
+    clock: WallClock,
+    subs: CopiedSubs,
+    details: DetailsOfRun<F>,
+) -> Result<(), Failure>
+    requires names { subs.names ≡ subs.own }
+    requires live { subs.live ≡ subs.own }
+    requires taken { F.taken details.file ≡ [] }
+    requires synced { F.synced details.file ≡ [] }
+    requires before { (F.current details.file).before ≡ [] }
+    requires failures { F.failures details.file ≡ 0 }
+{
     let mut output = PatientOutput::new(host);
     let told = serve_with_details(rt, order, clock, subs, details, &mut output)?;
     told?;

@@ -1,7 +1,7 @@
 //! The exchange as a program: it checks a subscription file, replays a script of events, and serves lines over TCP.
 #![tactic(auto)]
 
-ghost use Rattle.std.specs.Prelude.{◌≡◌};
+ghost use Rattle.std.specs.Prelude.{◌≡◌, IfOk};
 
 mod attending;
 mod beside;
@@ -112,15 +112,25 @@ fn check<R: AllocGlobal + Files<File = File> + Input + Net + Print>(
 ) -> Result<(), Failure> {
     let text = file_text(rt, file);
     let subs = subscriptions_of(rt, file, &text)?;
-    let changes = changes_of(rt, order, file, &text)?;
+    match changes_of(rt, order, file, &text)? {
+        Some(told) => {
+            check_alone(rt, order, subs)?;
+            Ok(print_changes(rt, &told)?)
+        }
+        None => check_alone(rt, order, subs),
+    }
+}
+
+/// Checks these subscriptions, without what changes.
+fn check_alone<R: AllocGlobal + Net + Print>(
+    rt: &R,
+    order: &CheckOrder<'_>,
+    subs: Subs,
+) -> Result<(), Failure> {
     check_readiness(rt, &subs, order.depth)?;
     let warning = refusal_warning(rt, &subs, order.form)?;
     check_file(rt, order.form, subs)?;
-    print_text(rt, &warning)?;
-    match changes {
-        Some(told) => Ok(print_changes(rt, &told)?),
-        None => Ok(()),
-    }
+    Ok(print_text(rt, &warning)?)
 }
 
 /// What changes as the subscriptions of a file of this text come into force after those of another one, if one is named.
@@ -188,22 +198,35 @@ fn serve_file<
         + Wait
         + 'static,
 >(rt: &R, host: HostRuntime, order: &ServeOrder<'_>, file: &str) -> Result<(), Failure> {
-    let path = file.to_string(rt.alloc())?;
     let text = fs::read_to_string(rt, file);
-    let own = subscriptions_of(rt, file, &text)?;
-    let names = subscriptions_of(rt, file, &text)?;
-    let live = subscriptions_of(rt, file, &text)?;
-    let kept = subscriptions_of(rt, file, &text)?;
-    let subs = CopiedSubs {
-        own,
-        names,
-        live,
-        file: SubscriptionFile::new(host, path, kept),
-    };
+    let subs = copied_subs(rt, host, file, &text)?;
     match serve_lines(rt, host, order, subs) {
         Ok(()) => Ok(()),
         Err(failure) => Err(with_reason(rt, file, &text, failure)),
     }
+}
+
+/// The subscriptions of a file of this text, once for each who needs them.
+fn copied_subs<R: AllocGlobal + Files<File = File>>(
+    rt: &R,
+    host: HostRuntime,
+    file: &str,
+    text: &io::Result<String>,
+) -> Result<CopiedSubs, CommandFailure>
+    ensures names { IfOk result (λ subs. subs.names ≡ subs.own) }
+    ensures live { IfOk result (λ subs. subs.live ≡ subs.own) }
+{
+    let path = file.to_string(rt.alloc())?;
+    let own = subscriptions_of(rt, file, text)?;
+    let names = subscriptions_of(rt, file, text)?;
+    let live = subscriptions_of(rt, file, text)?;
+    let kept = subscriptions_of(rt, file, text)?;
+    Ok(CopiedSubs {
+        own,
+        names,
+        live,
+        file: SubscriptionFile::new(host, path, kept),
+    })
 }
 
 /// This failure to serve the lines of a file of this text, with which, where and why if that is found.

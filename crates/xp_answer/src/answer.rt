@@ -24,7 +24,7 @@ pub struct CallAccepted<'a, A: Allocator = Global> {
 }
 
 /// The outcome of the answer to an incoming call.
-#[derive(Drop, PartialEq)]
+#[derive(Drop)]
 pub enum Answer<A: Allocator = Global> {
     /// The call is connected.
     Connected(Connection<A>),

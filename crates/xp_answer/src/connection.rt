@@ -13,7 +13,7 @@ use xp_facilities::{FastSelect, IndicatedFacilities, Reason, RequestedFacilities
 use xp_packets::{Block, Digits, Packet};
 
 /// A call that the called line has accepted.
-#[derive(Drop, PartialEq)]
+#[derive(Drop)]
 pub struct Connection<A: Allocator = Global> {
     /// The call connected packet, for the caller.
     pub packet: Packet<A>,

@@ -1,36 +1,40 @@
--- Commands that get one argument after another.
-use Rattle.std.proofs.Common.{◌≡◌, ◌∙◌, ap₂, refl, false, Result, Ok, Err, IfOk}
-use Rattle.clap.specs.Words.{AddsArg, App, Rule, app_of, rule_of, with_rule}
+-- Commands that get one argument after another, and one subcommand after another.
+use Rattle.std.proofs.Common.{◌≡◌, ◌∙◌, ◌+◌, ◌<◌, ℕ, List, [], ◌∷◌, ap, drop, false, get_or, length, refl, sym, Result, Ok, Err, IfOk}
+use Rattle.std.proofs.lemmas.List.{drop_more}
+use Rattle.clap.specs.Words.{AddsArg, AddsSubcommand, App, app_of, rule_of, with_rule, with_subcommand}
 use Rattle.clap.specs.declared.builder.arg.Arg.{Arg}
 use Rattle.clap.specs.declared.builder.command.Command.{Command}
 use Rattle.clap.specs.declared.builder.command.Command.TheViews.{out-Command as fields_of}
-
--- a command of this shape, and an argument of this rule, neither of them global
-pub record Has (command : Command) (app : App) : Type 0 where
-  pub shape : app_of command ≡ app
-  pub local : (fields_of command).has_globals ≡ false
-
-pub record Rules (arg : Arg) (rule : Rule) : Type 0 where
-  pub rule_is : rule_of arg ≡ rule
-  pub local : arg.global ≡ false
+use Rattle.xp_arguments.specs.steps.Rows.{command_with, rule_in, with_rules, with_verbs}
+use Rattle.xp_arguments.specs.declared.rows.ArgumentRow.{ArgumentRow}
+use Rattle.xp_arguments.specs.declared.subcommand.Verb.{Verb}
+use Rattle.xp_arguments.specs.declared.subcommand.Verb.TheVariants.{Check, Replay, Explain, Serve, Status, Stop, Reload}
 
 -- one more argument
-pub one_more : (before after : Command) (arg : Arg) (app : App) (rule : Rule) → Has before app → Rules arg rule → AddsArg before arg after → Has after (with_rule app rule)
-one_more before after arg app rule has rules adds = record {
-  shape = adds.shape rules.local ∙ ap₂ with_rule has.shape rules.rule_is;
-  local = adds.globals ∙ rw (has.local, rules.local) refl;
-}
+module _ (before after : Command) (arg : Arg) (adds : AddsArg before arg after) (local : arg.global ≡ false) where
+  pub one_more : (rows : List ArgumentRow) (i : ℕ) (d : ArgumentRow) (app : App) → i < length rows → with_rules (app_of before) (drop i rows) ≡ app
+      → rule_of arg ≡ rule_in (get_or rows i d) → with_rules (app_of after) (drop (i + 1) rows) ≡ app
+  one_more rows i d app within shape rule =
+      ap (λ app. with_rules app (drop (i + 1) rows)) (adds.shape local ∙ ap (with_rule (app_of before)) rule)
+      ∙ sym (ap (with_rules (app_of before)) (drop_more rows i d within)) ∙ shape
 
--- the last argument, for which there may be no memory
-pub last_one : {E : Type 0} (before : Command) (arg : Arg) (app : App) (rule : Rule) (result : Result Command E) → Has before app → Rules arg rule → IfOk result (AddsArg before arg)
-    → IfOk result (λ command. app_of command ≡ with_rule app rule) × IfOk result (λ command. (fields_of command).has_globals ≡ false)
-last_one before arg app rule (Ok after) has rules adds =
-    let more = one_more before after arg app rule has rules adds in
-    (more.shape, more.local)
-last_one before arg app rule (Err error) has rules adds = (tt, tt)
+  pub local_still : (fields_of before).has_globals ≡ false → (fields_of after).has_globals ≡ false
+  local_still before_is = adds.globals ∙ rw (before_is, local) refl
 
-pub has : (command : Command) (app : App) → app_of command ≡ app → (fields_of command).has_globals ≡ false → Has command app
-has command app shape local = record { shape = shape; local = local }
+-- one more subcommand, for which there may be no memory
+pub added : {E : Type 0} (before subcommand : Command) (result : Result Command E) (app : App) → app_of subcommand ≡ app → (fields_of subcommand).has_globals ≡ false
+    → (fields_of before).has_globals ≡ false → IfOk result (AddsSubcommand before subcommand)
+    → IfOk result (λ after. app_of after ≡ with_subcommand (app_of before) app.top) × IfOk result (λ after. (fields_of after).has_globals ≡ false)
+added before subcommand (Ok after) app shape local before_is adds =
+    (adds.shape local ∙ ap (λ app. with_subcommand (app_of before) app.top) shape, adds.globals ∙ rw (before_is, local) refl)
+added before subcommand (Err error) app shape local before_is adds = (tt, tt)
 
-pub by_rule : (arg : Arg) (rule : Rule) → rule_of arg ≡ rule → arg.global ≡ false → Rules arg rule
-by_rule arg rule is local = record { rule_is = is; local = local }
+-- the verbs, in their order
+abbrev pub all_verbs : List Verb
+all_verbs = Check ∷ Replay ∷ Explain ∷ Serve ∷ Status ∷ Stop ∷ Reload ∷ []
+
+-- the subcommand of one more verb
+pub one_verb : (before after : Command) (verbs : List Verb) (i : ℕ) (d : Verb) (app : App) → i < length verbs → with_verbs (app_of before) (drop i verbs) ≡ app
+    → app_of after ≡ with_subcommand (app_of before) (command_with (get_or verbs i d)).top → with_verbs (app_of after) (drop (i + 1) verbs) ≡ app
+one_verb before after verbs i d app within shape adds =
+    ap (λ app. with_verbs app (drop (i + 1) verbs)) adds ∙ sym (ap (with_verbs (app_of before)) (drop_more verbs i d within)) ∙ shape

@@ -8,7 +8,7 @@ use crate::names::{CDR, CDR_DIR};
 use clap::ArgMatches;
 
 /// Where call detail records go.
-#[derive(Clone, Copy, PartialEq, Eq)]
+#[derive(Clone, Copy)]
 pub enum DetailsOrder<'a> {
     /// To the file of this name.
     File(&'a str),

@@ -8,6 +8,7 @@ mod laws;
 mod misfits;
 mod names;
 mod replay_order;
+mod rows;
 mod serve_order;
 mod source;
 mod subcommand;

@@ -13,7 +13,7 @@ use clap::ArgMatches;
 use std::alloc::{AllocError, Global};
 
 /// The form in which a replay is told.
-#[derive(Clone, Copy, PartialEq, Eq)]
+#[derive(Clone, Copy)]
 pub enum ReplayForm<'a> {
     /// Lines of frames in hexadecimal digits, and of charging records.
     Digits,
@@ -26,7 +26,7 @@ pub enum ReplayForm<'a> {
 }
 
 /// A file of other subscriptions, and the name by which a script puts them into force.
-#[derive(Clone, Copy, PartialEq, Eq)]
+#[derive(Clone, Copy)]
 pub struct NamedPath<'a> {
     /// At least one character, none of them `=`.
     pub name: &'a str,

@@ -14,7 +14,7 @@ use xp_cdr::ExchangeName;
 use xp_limits::Limits;
 
 /// What is to be traced as lines are served.
-#[derive(Clone, Copy, PartialEq, Eq)]
+#[derive(Clone, Copy)]
 pub struct TraceOrder<'a> {
     /// The name of the file of the trace.
     pub path: &'a str,
@@ -23,7 +23,7 @@ pub struct TraceOrder<'a> {
 }
 
 /// How the lines are to be served.
-#[derive(Clone, Copy, PartialEq, Eq)]
+#[derive(Clone, Copy)]
 pub struct ServeOrder<'a> {
     pub limits: Limits,
     /// Where call detail records go, if they are to be written.

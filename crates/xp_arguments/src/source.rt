@@ -3,7 +3,7 @@
 ghost use Rattle.xp_arguments.specs.Sources.{IsSourceOf};
 
 /// Where a subscription file is read.
-#[derive(Clone, Copy, PartialEq, Eq)]
+#[derive(Clone, Copy)]
 pub enum FileSource<'a> {
     StandardInput,
     /// The file of this name.

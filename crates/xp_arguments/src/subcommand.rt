@@ -14,7 +14,7 @@ use clap::ArgMatches;
 use std::alloc::{AllocError, Global};
 
 /// What a subcommand does.
-#[derive(Clone, Copy, PartialEq, Eq)]
+#[derive(Clone, Copy)]
 pub enum Verb {
     Check,
     Replay,
@@ -27,6 +27,17 @@ pub enum Verb {
 
 impl Verb {
     ghost use Rattle.xp_arguments.specs.declared.subcommand.Verb.{Verb};
+
+    /// The verbs, in the order in which help tells them.
+    pub(crate) const ALL: [Verb; 7] = [
+        Verb::Check,
+        Verb::Replay,
+        Verb::Explain,
+        Verb::Serve,
+        Verb::Status,
+        Verb::Stop,
+        Verb::Reload,
+    ];
 
     /// Its word on the command line.
     pub fn word<'a>(self) -> &'a str
@@ -72,7 +83,7 @@ impl Verb {
 }
 
 /// The form in which a subscription file that sets up is told.
-#[derive(Clone, Copy, PartialEq, Eq)]
+#[derive(Clone, Copy)]
 pub enum CheckForm {
     /// A line of counts.
     Counts,
@@ -92,7 +103,7 @@ pub enum CheckDepth {
 }
 
 /// How a subscription file is to be checked.
-#[derive(Clone, Copy, PartialEq, Eq)]
+#[derive(Clone, Copy)]
 pub struct CheckOrder<'a> {
     pub form: CheckForm,
     pub depth: CheckDepth,
@@ -101,7 +112,7 @@ pub struct CheckOrder<'a> {
 }
 
 /// A call request whose decision is to be explained.
-#[derive(Clone, Copy, PartialEq, Eq)]
+#[derive(Clone, Copy)]
 pub struct QuestionOrder<'a> {
     /// The name of the calling line.
     pub caller: &'a str,
@@ -119,7 +130,7 @@ pub struct QuestionOrder<'a> {
     pub status: bool,
 }
 /// What a console is asked for.
-#[derive(Clone, Copy, PartialEq, Eq)]
+#[derive(Clone, Copy)]
 pub enum ConsoleRequest {
     /// To show the exchange.
     Status,

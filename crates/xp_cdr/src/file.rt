@@ -4,13 +4,13 @@ ghost use Rattle.std.specs.Prelude.{◌≡◌, ◌+◌, [], ◌∷◌, ◌++◌,
 ghost use Rattle.std.specs.Io.{StartsWith};
 ghost use Rattle.std.specs.IoError.{error_kind};
 
+use crate::handles::{lies_at, open_locked, reopened};
 use crate::opening::{OpenFault, Opened};
 use crate::record_file::{Place, RecordFile};
 use crate::tidying::tidy;
 use std::alloc::{AllocError, Global};
-use std::fs::{File, Files, Metadata, TryLockError};
+use std::fs::{File, Files};
 use std::io::{ErrorKind, Seek, SeekFrom, Write};
-use std::os::unix::fs::MetadataExt;
 use std::{fs, io};
 use xp_past::Past;
 
@@ -142,8 +142,7 @@ impl<R: Files<File = File> + Drop> DetailFile<R> {
         ensures synced { IfOk result (λ opened. ⟦<DetailFile<R> as RecordFile>⟧.synced opened.0 ≡ []) }
         ensures failures { IfOk result (λ opened. ⟦<DetailFile<R> as RecordFile>⟧.failures opened.0 ≡ 0) }
     {
-        let path = owned(alloc, path).map_err(OpenFault::Open)?;
-        let (begun, opened) = begin_or_move(alloc, &rt, path.as_str())?;
+        let (path, begun, opened) = begun_at(alloc, &rt, path)?;
         let file = DetailFile {
             rt,
             path,
@@ -298,10 +297,15 @@ fn no_memory(_refused: AllocError) -> OpenFault {
     OpenFault::Open(io::Error::from(ErrorKind::OutOfMemory))
 }
 
-/// A path of its own.
-fn owned(alloc: Global, path: &str) -> io::Result<String> {
-    path.to_string(alloc)
-        .map_err(|_| io::Error::from(ErrorKind::OutOfMemory))
+/// Opens the file at this path as `begin_or_move` does. Returns a path of its own, too.
+fn begun_at<R: Files<File = File>>(
+    alloc: Global,
+    rt: &R,
+    path: &str,
+) -> Result<(String, Begun, Opened), OpenFault> {
+    let path = path.to_string(alloc).map_err(no_memory)?;
+    let (begun, opened) = begin_or_move(alloc, rt, path.as_str())?;
+    Ok((path, begun, opened))
 }
 
 /// Opens the file at this path as `begin` does. One that lacks the last columns is moved aside, and a new one is begun.
@@ -362,70 +366,4 @@ fn begun_anew<R: Files<File = File>>(
     }
     let (begun, _) = begin(rt, path)?;
     Ok(Some(begun))
-}
-
-/// Opens the file at this path, or makes it, and locks it.
-fn open_locked<R: Files<File = File>>(rt: &R, path: &str) -> Result<File, OpenFault> {
-    let file = File::options()
-        .read(true)
-        .append(true)
-        .create(true)
-        .open(rt, path)
-        .map_err(OpenFault::Open)?;
-    lock(&file)?;
-    Ok(file)
-}
-
-/// Opens the locked file anew, and cuts it back to this length. It is refused where the file is shorter.
-fn reopened<R: Files<File = File>>(
-    rt: &R,
-    path: &str,
-    locked: &File,
-    length: u64,
-) -> io::Result<File> {
-    let file = another_handle(rt, path, locked)?;
-    if file.metadata()?.len() < length {
-        return Err(io::Error::from(ErrorKind::InvalidData));
-    }
-    file.set_len(length)?;
-    file.sync_all()?;
-    Ok(file)
-}
-
-/// Opens the locked file anew at this path. Where it does not lie there, it is a copy of the locked handle.
-fn another_handle<R: Files<File = File>>(rt: &R, path: &str, locked: &File) -> io::Result<File> {
-    match File::options().read(true).append(true).open(rt, path) {
-        Ok(file) => {
-            if is_same(&file.metadata()?, &locked.metadata()?) {
-                Ok(file)
-            } else {
-                locked.try_clone()
-            }
-        }
-        Err(error) if error.kind() == ErrorKind::NotFound => locked.try_clone(),
-        Err(error) => Err(error),
-    }
-}
-
-/// Whether the file of this handle lies at this path.
-fn lies_at<R: Files<File = File>>(rt: &R, path: &str, file: &File) -> io::Result<bool> {
-    match fs::metadata(rt, path) {
-        Ok(there) => Ok(is_same(&there, &file.metadata()?)),
-        Err(error) if error.kind() == ErrorKind::NotFound => Ok(false),
-        Err(error) => Err(error),
-    }
-}
-
-/// Whether both are of one file.
-fn is_same(one: &Metadata, two: &Metadata) -> bool {
-    one.dev() == two.dev() && one.ino() == two.ino()
-}
-
-/// Locks the file, for as long as it is open.
-fn lock(file: &File) -> Result<(), OpenFault> {
-    match file.try_lock() {
-        Ok(()) => Ok(()),
-        Err(TryLockError::WouldBlock) => Err(OpenFault::InUse),
-        Err(TryLockError::Error(error)) => Err(OpenFault::Lock(error)),
-    }
 }

@@ -5,9 +5,10 @@ ghost use Rattle.xp_cdr.specs.Moments.{moment_text};
 ghost use Rattle.xp_cdr.specs.steps.LastLine.{LastBegins};
 
 use crate::moment::read_moment;
+use crate::torn::read_at;
 use memchr::{memchr, memrchr};
 use std::io;
-use std::io::{Read, Seek, SeekFrom};
+use std::io::{Read, Seek};
 
 /// More octets than a line of a call detail record has.
 const MOST: usize = 4_096;
@@ -22,8 +23,7 @@ pub fn last_started<S: Read + Seek>(file: &mut S, end: u64) -> io::Result<Option
     let mut buffer = [0; MOST];
     let size = end.min(MOST as u64) as usize;
     let piece = &mut buffer[..size];
-    file.seek(SeekFrom::Start(end - size as u64))?;
-    file.read_exact(piece)?;
+    read_at(file, end - size as u64, piece)?;
     Ok(started_in(piece))
 }
 

@@ -13,6 +13,7 @@ mod file;
 mod flush_fault;
 mod flushing;
 mod giving;
+mod handles;
 mod last_line;
 mod laws;
 mod line;

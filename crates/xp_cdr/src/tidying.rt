@@ -1,33 +1,60 @@
 //! Tidying a file of call detail records as it is opened.
 
+ghost use Rattle.std.specs.Prelude.{◌≤◌, IfOk};
+
 use crate::detail::{HEADER, OLD_HEADER};
 use crate::last_line::last_started;
 use crate::opening::{OpenFault, Opened};
-use crate::torn::end_of_lines;
+use crate::torn::{end_of_lines, read_at};
 use std::fs::File;
 use std::io;
-use std::io::{Read, Seek, SeekFrom, Write};
+use std::io::{Read, Seek, Write};
+
+/// How a file lies there as it is opened.
+#[derive(Clone, Copy)]
+struct Found {
+    /// How long it is.
+    length: u64,
+    columns: Columns,
+    /// Where its last whole line ends.
+    end: u64,
+    /// When the exchange began whose record is that line.
+    last_started: Option<u64>,
+}
 
 /// Cuts off a torn last line, and writes the names of the fields if there is no line. Returns how the file was found, and how long
 /// it is now.
-pub(crate) fn tidy(mut file: &File) -> Result<(Opened, u64), OpenFault> {
-    let length = file.metadata().map_err(OpenFault::Read)?.len();
-    let columns = columns_of(&mut file, length).map_err(OpenFault::Read)?;
-    let end = end_of_lines(&mut file, length).map_err(OpenFault::Read)?;
-    let last_started = last_started(&mut file, end).map_err(OpenFault::Read)?;
-    match columns {
+pub(crate) fn tidy(file: &File) -> Result<(Opened, u64), OpenFault> {
+    let found = find(file).map_err(OpenFault::Read)?;
+    match found.columns {
         Columns::These => {}
-        Columns::Old => return Err(OpenFault::OldColumns(last_started)),
+        Columns::Old => return Err(OpenFault::OldColumns(found.last_started)),
         Columns::Other => return Err(OpenFault::OtherContent),
     }
-    write_lines(file, length, end).map_err(OpenFault::Write)?;
+    write_lines(file, found.length, found.end).map_err(OpenFault::Write)?;
     let opened = Opened {
-        is_new: end == 0,
-        torn: length - end,
-        last_started,
+        is_new: found.end == 0,
+        torn: found.length - found.end,
+        last_started: found.last_started,
         moved_aside: false,
     };
-    Ok((opened, end.max(HEADER.len() as u64)))
+    Ok((opened, found.end.max(HEADER.len() as u64)))
+}
+
+/// Reads how a file lies there.
+fn find(mut file: &File) -> io::Result<Found>
+    ensures { IfOk result (λ found. found.end ≤ found.length) }
+{
+    let length = file.metadata()?.len();
+    let columns = columns_of(&mut file, length)?;
+    let end = end_of_lines(&mut file, length)?;
+    let last_started = last_started(&mut file, end)?;
+    Ok(Found {
+        length,
+        columns,
+        end,
+        last_started,
+    })
 }
 
 /// Cuts a file of this length back to the end of its lines, and writes the names of the fields if it has no line.
@@ -56,8 +83,7 @@ fn columns_of<S: Read + Seek>(file: &mut S, length: u64) -> io::Result<Columns> 
     let mut buffer = [0; HEADER.len()];
     let size = length.min(names.len() as u64) as usize;
     let front = &mut buffer[..size];
-    file.seek(SeekFrom::Start(0))?;
-    file.read_exact(front)?;
+    read_at(file, 0, front)?;
     if names.starts_with(front) {
         Ok(Columns::These)
     } else if front.starts_with(OLD_HEADER.as_bytes()) {

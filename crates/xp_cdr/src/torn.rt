@@ -19,12 +19,25 @@ pub fn end_of_lines<S: Read + Seek>(file: &mut S, length: u64) -> io::Result<u64
         let size = end.min(PIECE as u64) as usize;
         let start = end - size as u64;
         let piece = &mut buffer[..size];
-        file.seek(SeekFrom::Start(start))?;
-        file.read_exact(piece)?;
+        read_at(file, start, piece)?;
         if let Some(place) = memrchr(b'\n', piece) {
             return Ok(start + place as u64 + 1);
         }
         end = start;
     }
     Ok(0)
+}
+
+/// Reads octets of a file, from this place on, until the piece is full.
+///
+/// # Errors
+///
+/// What the file tells, also where it ends before.
+pub(crate) fn read_at<S: Read + Seek>(
+    file: &mut S,
+    place: u64,
+    piece: &mut [u8],
+) -> io::Result<()> {
+    file.seek(SeekFrom::Start(place))?;
+    file.read_exact(piece)
 }

@@ -2,7 +2,7 @@
 
 ghost use Rattle.std.specs.Prelude.{◌≡◌, ◌+◌, ◌<◌, ◌++◌, [], length};
 
-use crate::calls::THE_26TH;
+use crate::calls::{LINE, THE_26TH};
 use std::alloc::Global;
 use std::io;
 use std::io::{Error, ErrorKind};
@@ -22,19 +22,21 @@ pub struct Failing {
 #[derive(Drop)]
 pub struct FailingFile {
     /// What is on the disk, and what it has taken behind it.
-    synced: Vec<u8>,
-    behind: Vec<u8>,
+    pub synced: Vec<u8>,
+    pub behind: Vec<u8>,
     failures: Past<ErrorKind>,
     /// The most octets that it takes at a time.
     most: usize,
     ghost takes_some: { 0 < most },
     failing: Failing,
-    calls: u64,
-    cuts: u64,
-    begun: u64,
-    /// The day of the open file, and which days were begun, each with how much was on the disk then.
+    /// How often it was called, it was cut back, and a new one was begun at its path.
+    pub calls: u64,
+    pub cuts: u64,
+    pub begun: u64,
+    /// The day of the open file. Of the days that were begun, three digits for each: how many days it is after the 26th, and how many
+    /// call detail records were on the disk then.
     day: u64,
-    days: Vec<(u64, usize)>,
+    pub days: u64,
     before: Past<u8>,
 }
 
@@ -56,39 +58,9 @@ impl FailingFile {
             cuts: 0,
             begun: 0,
             day: THE_26TH,
-            days: Vec::new(alloc),
+            days: 0,
             before: Past::new(),
         }
-    }
-
-    /// What it has on the disk.
-    pub fn synced(&self) -> &[u8] {
-        self.synced.as_slice()
-    }
-
-    /// What it has taken behind that.
-    pub fn behind(&self) -> &[u8] {
-        self.behind.as_slice()
-    }
-
-    /// How often it was called.
-    pub fn calls(&self) -> u64 {
-        self.calls
-    }
-
-    /// How often it was cut back.
-    pub fn cuts(&self) -> u64 {
-        self.cuts
-    }
-
-    /// How often a new one was begun at its path.
-    pub fn begun(&self) -> u64 {
-        self.begun
-    }
-
-    /// Which days were begun, each with how much was on the disk then.
-    pub fn days(&self) -> &[(u64, usize)] {
-        self.days.as_slice()
     }
 
     /// Counts a call, and tells whether it fails.
@@ -199,13 +171,12 @@ impl RecordFile for FailingFile {
         if self.fails() {
             return Err(OpenFault::Open(self.failure(ErrorKind::PermissionDenied)));
         }
-        match self.days.push((part, self.synced.len())) {
-            Ok(()) => {
-                self.day = part;
-                self.before = self.so_far();
-                Ok(())
-            }
-            Err(_) => Err(OpenFault::Open(self.failure(ErrorKind::OutOfMemory))),
-        }
+        let later = part.saturating_sub(THE_26TH).saturating_mul(100);
+        let records = (self.synced.len() / LINE) as u64;
+        let days = self.days.saturating_mul(1_000);
+        self.days = days.saturating_add(later).saturating_add(records);
+        self.day = part;
+        self.before = self.so_far();
+        Ok(())
     }
 }

@@ -1,11 +1,9 @@
-//! Tests of call detail records: numbers that no run of the program has, a text that finds no memory, and a file that fails.
+//! Tests of call detail records: a file that fails, and numbers that no run of the program has.
 #![tactic(auto)]
 
 #[cfg(test)]
 mod calls;
 #[cfg(test)]
 mod failing;
-#[cfg(test)]
-mod texts;
 #[cfg(test)]
 mod writing;

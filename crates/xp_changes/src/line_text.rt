@@ -4,7 +4,7 @@ use crate::listing::ChangedSubs;
 use crate::refusing::name_in;
 use std::alloc::AllocError;
 use std::fmt::Write;
-use xp_subs::{Access, Line, RouterAddress, Subs};
+use xp_subs::{Access, Line, Subs};
 
 /// What becomes of the call of a line that is given up.
 const CALL_ENDS: &str = "its call ends";
@@ -38,41 +38,35 @@ pub(crate) fn push_access(text: &mut String, was: &Line, is: &Line) -> Result<()
         return Ok(());
     }
     let name = is.name.as_str();
-    write!(text, "line {name}: ")?;
-    match (&was.access, &is.access) {
-        (Access::Port(before), Access::Port(after)) => {
-            write!(text, "port {before} becomes {after}")?
-        }
-        (Access::Router(before), Access::Router(after)) => {
-            write!(text, "router ")?;
-            push_router(text, before)?;
-            write!(text, " becomes ")?;
-            push_router(text, after)?;
-        }
-        (before, after) => {
-            push_place(text, before)?;
-            write!(text, " becomes ")?;
-            push_place(text, after)?;
-        }
+    let (before, after) = (kind_of(&was.access), kind_of(&is.access));
+    write!(text, "line {name}: {before}")?;
+    push_place(text, &was.access)?;
+    text.push_str(" becomes ")?;
+    if after != before {
+        text.push_str(after)?;
     }
+    push_place(text, &is.access)?;
     writeln!(text, ": {CALL_ENDS}")
 }
 
-/// A port or a router.
-fn push_place(text: &mut String, access: &Access) -> Result<(), AllocError> {
+/// Whether a line has a port or a router, in words.
+fn kind_of(access: &Access) -> &'static str {
     match access {
-        Access::Port(port) => write!(text, "port {port}"),
-        Access::Router(router) => {
-            write!(text, "router ")?;
-            push_router(text, router)
-        }
-        Access::Spare => write!(text, "nothing"),
+        Access::Port(_) => "port ",
+        Access::Router(_) => "router ",
+        Access::Spare => "nothing",
     }
 }
 
-/// Where a router takes connections.
-fn push_router(text: &mut String, router: &RouterAddress) -> Result<(), AllocError> {
-    let address = router.address();
-    let port = router.port();
-    write!(text, "{address} port {port}")
+/// The number of a port, or where a router takes connections.
+fn push_place(text: &mut String, access: &Access) -> Result<(), AllocError> {
+    match access {
+        Access::Port(port) => write!(text, "{port}"),
+        Access::Router(router) => {
+            let address = router.address();
+            let port = router.port();
+            write!(text, "{address} port {port}")
+        }
+        Access::Spare => Ok(()),
+    }
 }

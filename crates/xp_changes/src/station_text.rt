@@ -103,9 +103,9 @@ fn push_address(
         was.address, is.address
     )?;
     match staying_lines(old, new, station) {
-        0 => writeln!(text, ""),
+        0 => text.push('\n'),
         1 if is.lines.len() == 1 => writeln!(text, " (refused while line {name} is in a call)"),
-        _ => writeln!(text, " (refused while one of its lines is in a call)"),
+        _ => text.push_str(" (refused while one of its lines is in a call)\n"),
     }
 }
 
@@ -301,6 +301,6 @@ fn push_moved(
     if is.access == was.access {
         writeln!(text, " (refused while line {name} is in a call)")
     } else {
-        writeln!(text, "")
+        text.push('\n')
     }
 }

@@ -4,7 +4,7 @@ ghost use Rattle.std.specs.Prelude.{◌≡◌, ◌↔◌, IfOk, IsOk, OnOk, fals
 ghost use Rattle.xp_changes.specs.Following.{MayFollow};
 
 use crate::line_text::push_lines;
-use crate::listing::changes;
+use crate::listing::{ChangedSubs, changes};
 use crate::refusing::{frame_text, lay_text};
 use crate::station_text::push_stations;
 use std::alloc::{AllocError, Global};
@@ -63,8 +63,17 @@ fn tell_stop(text: Result<String, AllocError>) -> Result<ToldChanges, AllocError
 fn changed_text(alloc: Global, old: &Subs, laid: &Subs) -> Result<String, AllocError> {
     let changes = changes(alloc, old, laid)?;
     let mut text = String::new(alloc);
-    push_stations(&mut text, old, laid, &changes)?;
-    push_lines(&mut text, old, laid, &changes)?;
-    writeln!(text, "{changes}")?;
+    push_changes(&mut text, old, laid, &changes)?;
     Ok(text)
+}
+
+fn push_changes(
+    text: &mut String,
+    old: &Subs,
+    laid: &Subs,
+    changes: &ChangedSubs,
+) -> Result<(), AllocError> {
+    push_stations(text, old, laid, changes)?;
+    push_lines(text, old, laid, changes)?;
+    writeln!(text, "{changes}")
 }

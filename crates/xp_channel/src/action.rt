@@ -1,5 +1,5 @@
 /// What an event does to its line, and to the line's call.
-#[derive(Clone, Copy, PartialEq, Eq)]
+#[derive(Clone, Copy)]
 pub enum Action {
     /// The event is ignored.
     Nothing,

@@ -8,10 +8,9 @@ use crate::kind::EventKind;
 use xp_causes::diagnostic::{INVALID_IN_P1, INVALID_IN_P2, INVALID_IN_P3, INVALID_IN_P4};
 
 /// The state of a line's logical channel (X.25 Annex B).
-#[derive(Clone, Copy, Debug, Default, PartialEq, Eq)]
+#[derive(Clone, Copy, Debug, PartialEq, Eq)]
 pub enum Channel {
     /// Out of service: no connection.
-    #[default]
     Off,
     /// p1, ready.
     P1,

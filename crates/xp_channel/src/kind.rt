@@ -5,7 +5,7 @@ use std::alloc::Allocator;
 use xp_packets::{Malformed, Packet};
 
 /// The kinds of events: the columns of the table of actions.
-#[derive(Clone, Copy, PartialEq, Eq)]
+#[derive(Clone, Copy)]
 pub enum EventKind {
     /// The line's connection is up.
     Up,

@@ -1,11 +1,9 @@
-//! Tests of the codecs, a file for each crate: what no contract says, as tables.
+//! Tests of the codecs: what no contract says, as a table.
 #![tactic(auto)]
 
 #[cfg(test)]
-mod facilities;
+mod calls;
 #[cfg(test)]
-mod frames;
+mod playing;
 #[cfg(test)]
-mod packets;
-#[cfg(test)]
-mod testing;
+mod table;

@@ -29,3 +29,9 @@ six_then (Err fault) old first second third a b c d e f number end pieces counte
 pub appended : {A E : Type 0} (r : Result A E) (old new end : List ℕ) → new ≡ (if is_ok r then old ++ end else old) → OnOk r (new ≡ old ++ end)
 appended (Ok done) old new end is = is
 appended (Err fault) old new end is = tt
+
+-- nine pieces that were appended, one behind another
+pub nine_appended : {A E : Type 0} (r : Result A E) (old new a b c d e f g h i : List ℕ) → OnOk r (new ≡ old ++ (a ++ (b ++ (c ++ (d ++ (e ++ (f ++ (g ++ (h ++ (i ++ []))))))))))
+    → OnOk r (new ≡ old ++ (a ++ b ++ c ++ d ++ e ++ f ++ g ++ h ++ i))
+nine_appended (Ok done) old new a b c d e f g h i is = is ∙ ap (λ t. old ++ t) (simp (append_assoc, append-nil))
+nine_appended (Err fault) old new a b c d e f g h i is = tt

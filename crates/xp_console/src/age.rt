@@ -10,7 +10,7 @@ const HOUR: u64 = 60 * MINUTE;
 pub(crate) const DAY: u64 = 24 * HOUR;
 
 /// A number of seconds, shown as `1d 2:03:07` or `0:00:12`.
-#[derive(Clone, Copy, PartialEq, Eq)]
+#[derive(Clone, Copy)]
 pub(crate) struct Age(pub u64);
 
 impl fmt::Display for Age {
@@ -27,7 +27,7 @@ impl fmt::Display for Age {
 }
 
 /// A moment in seconds since 1970, shown as its time of day (UTC), such as `02:03:07`.
-#[derive(Clone, Copy, PartialEq, Eq)]
+#[derive(Clone, Copy)]
 pub(crate) struct DayTime(pub u64);
 
 impl fmt::Display for DayTime {

@@ -26,7 +26,7 @@ const LONGEST: usize = 1_048_576;
 const PIECE: usize = 4_096;
 
 /// Why a console has not done what it was asked.
-#[derive(Clone, Copy, Debug, Drop, PartialEq, Error)]
+#[derive(Clone, Copy, Debug, Drop, Error)]
 pub enum AskFault {
     /// Nothing listens at the address, or the connection broke.
     #[error("no console answers there")]
@@ -62,14 +62,11 @@ pub fn ask_status<R: Net<Stream = TcpStream> + Clock>(
     alloc: Global,
     address: SocketAddr,
 ) -> Result<String, AskFault> {
-    let request = format!(in alloc;
-        "GET /status.txt HTTP/1.1\r\nhost: {address}\r\nconnection: close\r\n\r\n"
-    )?;
-    let reply = ask(rt, alloc, address, request.as_bytes(), PATIENCE)?;
-    match String::from_utf8(reply.body) {
-        Ok(text) if reply.status == 200 => Ok(text),
-        Ok(_) => Err(AskFault::Refused(reply.status)),
-        Err(_) => Err(AskFault::Unreadable),
+    let Reply { status, body } = ask(rt, alloc, address, "GET /status.txt", "", PATIENCE)?;
+    let text = text_in(body)?;
+    match status {
+        200 => Ok(text),
+        _ => Err(AskFault::Refused(status)),
     }
 }
 
@@ -83,10 +80,8 @@ pub fn ask_stop<R: Net<Stream = TcpStream> + Clock>(
     alloc: Global,
     address: SocketAddr,
 ) -> Result<(), AskFault> {
-    let request = format!(in alloc;
-        "POST /stop HTTP/1.1\r\nhost: {address}\r\nconnection: close\r\ncontent-length: 0\r\nx-gonukire: stop\r\n\r\n"
-    )?;
-    let reply = ask(rt, alloc, address, request.as_bytes(), PATIENCE)?;
+    let fields = "content-length: 0\r\nx-gonukire: stop\r\n";
+    let reply = ask(rt, alloc, address, "POST /stop", fields, PATIENCE)?;
     match reply.status {
         202 => Ok(()),
         status => Err(AskFault::Refused(status)),
@@ -104,54 +99,83 @@ pub fn ask_reload<R: Net<Stream = TcpStream> + Clock>(
     alloc: Global,
     address: SocketAddr,
 ) -> Result<ReloadAnswer, AskFault> {
-    let request = format!(in alloc;
-        "POST /reload HTTP/1.1\r\nhost: {address}\r\nconnection: close\r\ncontent-length: 0\r\nx-gonukire: reload\r\n\r\n"
-    )?;
-    let reply = ask(rt, alloc, address, request.as_bytes(), RELOAD_PATIENCE)?;
-    match reply.status {
-        200 => Ok(ReloadAnswer::Done(line_in(reply.body)?)),
-        409 => Ok(ReloadAnswer::Refused(line_in(reply.body)?)),
+    let fields = "content-length: 0\r\nx-gonukire: reload\r\n";
+    let reply = ask(rt, alloc, address, "POST /reload", fields, RELOAD_PATIENCE)?;
+    let Reply { status, body } = reply;
+    match status {
+        200 => told(body, true),
+        409 => told(body, false),
         503 => Ok(ReloadAnswer::Busy),
-        status => Err(AskFault::Refused(status)),
+        _ => Err(AskFault::Refused(status)),
     }
 }
 
-/// The text of a body, without the line feed at its end.
-fn line_in(mut body: Vec<u8>) -> Result<String, AskFault> {
+/// What a reload is answered with this body, where it was done or refused.
+fn told(mut body: Vec<u8>, is_done: bool) -> Result<ReloadAnswer, AskFault> {
     if body.last() == Some(&b'\n') {
         body.pop();
     }
-    String::from_utf8(body).map_err(|_| AskFault::Unreadable)
+    let text = text_in(body)?;
+    Ok(if is_done {
+        ReloadAnswer::Done(text)
+    } else {
+        ReloadAnswer::Refused(text)
+    })
 }
 
-/// The reply to a request, which has to come within so many seconds.
+fn text_in(body: Vec<u8>) -> Result<String, AskFault> {
+    match String::from_utf8(body) {
+        Ok(text) => Ok(text),
+        Err(_) => Err(AskFault::Unreadable),
+    }
+}
+
+/// The reply to a request with this method and path, and these fields beside those that each has. It has to come within so many
+/// seconds.
 fn ask<R: Net<Stream = TcpStream> + Clock>(
     rt: &R,
     alloc: Global,
     address: SocketAddr,
-    request: &[u8],
+    target: &str,
+    fields: &str,
     patience: u64,
 ) -> Result<Reply, AskFault> {
+    let request = format!(in alloc;
+        "{target} HTTP/1.1\r\nhost: {address}\r\nconnection: close\r\n{fields}\r\n"
+    )?;
     let ends = uptime(rt)?.saturating_add(Duration::from_secs(patience));
+    let text = exchange(rt, alloc, address, request.as_bytes(), ends)?;
+    reply_in(alloc, &text)
+}
+
+/// All that the console sends behind a request, before this moment.
+fn exchange<R: Net<Stream = TcpStream> + Clock>(
+    rt: &R,
+    alloc: Global,
+    address: SocketAddr,
+    request: &[u8],
+    ends: Duration,
+) -> Result<Vec<u8>, AskFault> {
     let most = Duration::from_secs(PATIENCE);
     let Ok(mut stream) = TcpStream::connect_timeout(rt, &address, most) else {
         return Err(AskFault::Unreachable);
     };
+    let mut text = Vec::new(alloc);
+    talk(rt, &mut stream, request, ends, &mut text)?;
+    Ok(text)
+}
+
+/// Sends a request, and reads all that comes until the console closes the connection, which it has to before this moment.
+fn talk<R: Clock>(
+    rt: &R,
+    stream: &mut TcpStream,
+    request: &[u8],
+    ends: Duration,
+    text: &mut Vec<u8>,
+) -> Result<(), AskFault> {
     if stream.write_all(request).is_err() {
         return Err(AskFault::Unreachable);
     }
-    let text = read_all(rt, alloc, &mut stream, ends)?;
-    reply_in(alloc, &text)
-}
-
-/// All that comes until the console closes the connection, which it has to before this moment.
-fn read_all<R: Clock>(
-    rt: &R,
-    alloc: Global,
-    stream: &mut TcpStream,
-    ends: Duration,
-) -> Result<Vec<u8>, AskFault> {
-    let mut text = Vec::new(alloc);
     for _piece in 0..u64::MAX {
         if text.len() >= LONGEST {
             break;
@@ -162,10 +186,9 @@ fn read_all<R: Clock>(
         }
         let mut piece = [0; PIECE];
         match read_within(stream, left, &mut piece) {
-            Ok(0) => return Ok(text),
+            Ok(0) => return Ok(()),
             Ok(count) => text.extend_from_slice(&piece[..count])?,
-            Err(error) if is_slow(&error) => return Err(AskFault::Slow),
-            Err(_) => return Err(AskFault::Unreachable),
+            Err(error) => return Err(fault_of(&error)),
         }
     }
     Err(AskFault::Unreadable)
@@ -179,11 +202,11 @@ fn read_within(stream: &mut TcpStream, most: Duration, into: &mut [u8]) -> io::R
     stream.read(into)
 }
 
-fn is_slow(error: &io::Error) -> bool {
-    matches!(
-        error.kind(),
-        ErrorKind::WouldBlock | ErrorKind::TimedOut | ErrorKind::Interrupted
-    )
+fn fault_of(error: &io::Error) -> AskFault {
+    match error.kind() {
+        ErrorKind::WouldBlock | ErrorKind::TimedOut | ErrorKind::Interrupted => AskFault::Slow,
+        _ => AskFault::Unreachable,
+    }
 }
 
 /// The time since the system began.

@@ -17,7 +17,7 @@ const MOST_MOVES: u32 = 64;
 const PIECE: usize = 1_024;
 
 /// What became of a connection as it was looked at.
-#[derive(Clone, Copy, PartialEq, Eq)]
+#[derive(Clone, Copy, PartialEq)]
 pub(crate) enum Look {
     /// Its peer has nothing more to give or takes nothing more now.
     Waits,

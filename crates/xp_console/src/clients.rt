@@ -102,9 +102,12 @@ impl<T: ClientStream> Clients<T> {
         requires { place < length self.old }
         ensures { self.new ≡ remove self.old place }
     {
-        self.clients.remove(place);
+        end(self.clients.remove(place));
     }
 }
+
+/// Closes a connection.
+fn end<T: ClientStream>(_client: Client<T>) {}
 
 fn look_at_all<T: ClientStream, S: Service>(
     clients: &mut Clients<T>,

@@ -35,7 +35,7 @@ const LONGEST_WAIT: u64 = 500;
 const MOST_TAKEN: u32 = 64;
 
 /// Why the console can't be served.
-#[derive(Clone, Copy, Debug, Drop, PartialEq, Error)]
+#[derive(Clone, Copy, Debug, Drop, Error)]
 pub enum ConsoleFault {
     /// Its address can't be listened on.
     #[error("the console's address can't be listened on")]

@@ -2,7 +2,7 @@
 
 ghost use Rattle.std.specs.Prelude.{◌≡◌, ◌==◌, ◌↔◌, IsTrue};
 ghost use Rattle.std.specs.List.{before_first, position};
-ghost use Rattle.xp_console.specs.Hosts.{HasOwnAddress, IsOwnAddress, IsOwnName, NamesConsole, name_in as host_named};
+ghost use Rattle.xp_console.specs.Hosts.{HasOwnAddress, IsOwnAddress, NamesConsole, name_in as host_named};
 
 use std::net::IpAddr;
 
@@ -10,7 +10,8 @@ use std::net::IpAddr;
 pub(crate) fn names_console(own: IpAddr, host: &[u8]) -> bool
     ensures { IsTrue result ↔ NamesConsole own host.now }
 {
-    is_own_name(own, name_in(host))
+    let name = name_in(host);
+    name.eq_ignore_ascii_case(b"localhost") || has_own_address(own, name)
 }
 
 /// The name or the address of the host, without its port and without brackets.
@@ -38,13 +39,6 @@ fn place_of(text: &[u8], octet: u8) -> Option<usize>
     ensures { result ≡ position (λ x. x == octet) text.now }
 {
     text.iter().position(|x| *x == octet)
-}
-
-/// Whether this is `localhost`, or the text of an address of this machine alone or of the console's own.
-fn is_own_name(own: IpAddr, name: &[u8]) -> bool
-    ensures { IsTrue result ↔ IsOwnName own name.now }
-{
-    name.eq_ignore_ascii_case(b"localhost") || has_own_address(own, name)
 }
 
 /// Whether this is the text of an address of this machine alone, or of the console's own.

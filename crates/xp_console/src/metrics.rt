@@ -242,7 +242,6 @@ fn push_events(text: &mut String, totals: &Totals) -> Result<(), AllocError>
 }
 
 /// How many records wait, and how many calls of the run before got a partial one.
-#[tactic(auto, unfolding(crate::specs::Metrics::records_text))]
 fn push_records(text: &mut String, totals: &Totals) -> Result<(), AllocError>
     ensures { OnOk result (string_bytes text.new ≡ string_bytes text.old ++ records_text totals.now) }
 {
@@ -302,7 +301,6 @@ fn push_single(
 }
 
 /// What a metric is, in front of its samples.
-#[tactic(auto, unfolding(crate::specs::Metrics::head_text))]
 pub(crate) fn push_head(
     text: &mut String,
     name: &str,

@@ -5,7 +5,7 @@ ghost use Rattle.std.specs.Prelude.{◌≡◌, ◌+◌, ◌-◌, ◌^◌, min};
 use xp_causes::clearing_cause;
 
 /// How many call requests were refused with each clearing cause that the exchange sends (X.25 clause 5.2.4).
-#[derive(Clone, Copy, Default, PartialEq, Eq)]
+#[derive(Clone, Copy, Default)]
 pub struct RefusedCalls {
     pub number_busy: u64,
     pub invalid_facility_request: u64,

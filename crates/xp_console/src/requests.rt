@@ -14,7 +14,7 @@ use std::net::IpAddr;
 const HEADER: &str = "x-gonukire";
 
 /// How the status is written.
-#[derive(Clone, Copy, PartialEq, Eq)]
+#[derive(Clone, Copy)]
 pub enum Format {
     /// `/status.json`: as JSON.
     Json,
@@ -25,7 +25,7 @@ pub enum Format {
 }
 
 /// What the console has to offer.
-#[derive(Clone, Copy, PartialEq, Eq)]
+#[derive(Clone, Copy)]
 pub enum Resource {
     /// `/`: the page.
     Page,
@@ -40,7 +40,7 @@ pub enum Resource {
 }
 
 /// What a request is answered.
-#[derive(Clone, Copy, PartialEq, Eq)]
+#[derive(Clone, Copy)]
 pub enum Answer {
     /// The resource is shown; the stop or the reload is taken.
     Granted(Resource),
@@ -72,10 +72,10 @@ pub fn answer_to(own: IpAddr, request: &Request<Bytes>) -> Answer
     if !has_header(resource, request) {
         return Answer::Forbidden(resource);
     }
-    if resource == Resource::Reload && !request.body().is_empty() {
-        return Answer::HasBody;
+    match resource {
+        Resource::Reload if !request.body().is_empty() => Answer::HasBody,
+        _ => Answer::Granted(resource),
     }
-    Answer::Granted(resource)
 }
 
 /// Whether the request is addressed to the console.

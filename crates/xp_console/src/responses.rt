@@ -17,7 +17,7 @@ const POLICY: &str =
     "default-src 'none'; style-src 'unsafe-inline'; script-src 'unsafe-inline'; connect-src 'self'; base-uri 'none'; form-action 'none'; frame-ancestors 'none'";
 
 /// What the body of a response is.
-#[derive(Clone, Copy, PartialEq, Eq)]
+#[derive(Clone, Copy)]
 pub(crate) enum Kind {
     Html,
     Json,
@@ -57,9 +57,8 @@ pub(crate) fn say_allowed(response: &mut Response, methods: &'static str)
     requires blank { IsBlank response.old }
     ensures { Says 405 Kind.Text ((codes "allow", methods.now) ∷ []) (codes "wrong method\n") response.new }
 {
-    if fill_allowed(response, methods).is_err() {
-        be_unavailable(response);
-    }
+    let status = StatusCode::METHOD_NOT_ALLOWED;
+    say_more(response, status, "allow", methods, b"wrong method\n");
 }
 
 /// Answers 503: it may be tried again, in 10 seconds.
@@ -67,7 +66,24 @@ pub(crate) fn say_busy(response: &mut Response)
     requires { IsBlank response.old }
     ensures { Says 503 Kind.Text ((codes "retry-after", codes "10") ∷ []) (codes "busy\n") response.new }
 {
-    if fill_busy(response).is_err() {
+    let status = StatusCode::SERVICE_UNAVAILABLE;
+    say_more(response, status, "retry-after", "10", b"busy\n");
+}
+
+/// Answers with this status and text, and one more field. Where memory is wanting the answer is 503.
+fn say_more(
+    response: &mut Response,
+    status: StatusCode,
+    name: &'static str,
+    value: &'static str,
+    body: &[u8],
+)
+    requires name { IsTrue (is_header_name name.now) }
+    requires value { IsTrue (is_visible_text value.now) }
+    requires blank { IsBlank response.old }
+    ensures { Says status Kind.Text ((name.now, value.now) ∷ []) body.now response.new }
+{
+    if fill(response, status, Kind::Text, body).is_err() || add(response, name, value).is_err() {
         be_unavailable(response);
     }
 }
@@ -78,33 +94,6 @@ pub(crate) fn be_unavailable(response: &mut Response)
 {
     response.clear();
     response.status = StatusCode::SERVICE_UNAVAILABLE;
-}
-
-fn fill_allowed(response: &mut Response, methods: &'static str) -> Result<(), AllocError>
-    requires valid { IsTrue (is_visible_text methods.now) }
-    requires blank { IsBlank response.old }
-    ensures { OnOk result (IsResponse 405 (fields_for Kind.Text ++ (codes "allow", methods.now) ∷ []) (codes "wrong method\n") response.new) }
-{
-    fill(
-        response,
-        StatusCode::METHOD_NOT_ALLOWED,
-        Kind::Text,
-        b"wrong method\n",
-    )?;
-    add(response, "allow", methods)
-}
-
-fn fill_busy(response: &mut Response) -> Result<(), AllocError>
-    requires { IsBlank response.old }
-    ensures { OnOk result (IsResponse 503 (fields_for Kind.Text ++ (codes "retry-after", codes "10") ∷ []) (codes "busy\n") response.new) }
-{
-    fill(
-        response,
-        StatusCode::SERVICE_UNAVAILABLE,
-        Kind::Text,
-        b"busy\n",
-    )?;
-    add(response, "retry-after", "10")
 }
 
 pub(crate) fn fill(

@@ -118,18 +118,25 @@ fn respond<S: StatusSource>(alloc: Global, source: &mut S, answer: Answer, respo
 {
     match answer {
         Answer::Granted(resource) => grant(alloc, source, resource, response),
-        Answer::Misdirected => refuse(
-            response,
-            StatusCode::MISDIRECTED_REQUEST,
-            b"not addressed to this console\n",
-        ),
-        Answer::NotFound => refuse(response, StatusCode::NOT_FOUND, b"not found\n"),
+        Answer::Misdirected => {
+            let why = b"not addressed to this console\n";
+            say(response, StatusCode::MISDIRECTED_REQUEST, Kind::Text, why);
+        }
+        Answer::NotFound => say(response, StatusCode::NOT_FOUND, Kind::Text, b"not found\n"),
         Answer::WrongMethod(Resource::Stop | Resource::Reload) => say_allowed(response, "POST"),
         Answer::WrongMethod(_) => say_allowed(response, "GET, HEAD"),
         Answer::Forbidden(resource) => {
-            refuse(response, StatusCode::FORBIDDEN, lacks_text(resource));
+            say(
+                response,
+                StatusCode::FORBIDDEN,
+                Kind::Text,
+                lacks_text(resource),
+            );
         }
-        Answer::HasBody => refuse(response, StatusCode::BAD_REQUEST, b"a reload has no body\n"),
+        Answer::HasBody => {
+            let why = b"a reload has no body\n";
+            say(response, StatusCode::BAD_REQUEST, Kind::Text, why);
+        }
     }
 }
 
@@ -141,13 +148,6 @@ fn lacks_text(resource: Resource) -> &'static [u8]
         Resource::Reload => b"a reload needs the header X-Gonukire: reload\n",
         _ => b"a stop needs the header X-Gonukire: stop\n",
     }
-}
-
-fn refuse(response: &mut Response, status: StatusCode, why: &[u8])
-    requires { IsBlank response.old }
-    ensures { Says status Kind.Text [] why.now response.new }
-{
-    say(response, status, Kind::Text, why);
 }
 
 /// Responds with what a granted resource shows, or stops the exchange, or asks for a reload.
@@ -167,7 +167,7 @@ fn grant<S: StatusSource>(
         Resource::Health => say(response, StatusCode::OK, Kind::Text, b"ok\n"),
         Resource::Status(format) => show(alloc, source, format, response),
         Resource::Stop => take_stop(source, response),
-        Resource::Reload => take_reload(source, response),
+        Resource::Reload => tell_reload(source.reload(), response),
     }
 }
 
@@ -224,14 +224,4 @@ fn take_stop<S: StatusSource>(source: &mut S, response: &mut Response)
         Ok(()) => source.stop(),
         Err(_) => be_unavailable(response),
     }
-}
-
-/// Asks for a reload, and responds with what became of it.
-fn take_reload<S: StatusSource>(source: &mut S, response: &mut Response)
-    requires blank { IsBlank response.old }
-    requires reload { S.may_reload }
-    ensures { Reloads S.reloads source.old response.new source.new }
-{
-    let answer = source.reload();
-    tell_reload(answer, response);
 }

@@ -101,7 +101,6 @@ fn push_refusals_of_each(text: &mut String, stations: &[StationCalls]) -> Result
 }
 
 /// How many call requests of a station were refused.
-#[tactic(auto, unfolding(crate::specs::Metrics::station_refusals_sample))]
 fn push_refusals_of(text: &mut String, station: &StationCalls) -> Result<(), AllocError>
     ensures { OnOk result (string_bytes text.new ≡ string_bytes text.old ++ station_refusals_sample station.now) }
 {

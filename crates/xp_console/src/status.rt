@@ -27,7 +27,7 @@ pub struct ExchangeStatus {
 }
 
 /// How often the exchange was asked to read its subscription file again.
-#[derive(Clone, Copy, Default, PartialEq, Eq)]
+#[derive(Clone, Copy, Default)]
 pub struct ReloadCounts {
     /// Reloads after which other subscriptions were in force.
     pub done: u64,
@@ -70,10 +70,9 @@ pub struct StationCalls {
 }
 
 /// The state of a line's logical channel (X.25 Annex B).
-#[derive(Clone, Copy, Default, PartialEq, Eq)]
+#[derive(Clone, Copy, PartialEq)]
 pub enum LineState {
     /// The line has no connection.
-    #[default]
     OutOfService,
     /// p1, ready.
     Ready,
@@ -141,14 +140,14 @@ pub struct EndedCall {
 }
 
 /// The end that pays for a call.
-#[derive(Clone, Copy, PartialEq, Eq)]
+#[derive(Clone, Copy)]
 pub enum Payer {
     Caller,
     Called,
 }
 
 /// What was counted since the exchange began to serve, and how many records wait.
-#[derive(Clone, Copy, Default, PartialEq, Eq)]
+#[derive(Clone, Copy)]
 pub struct Totals {
     /// Call requests, with those that were refused.
     pub calls: u64,

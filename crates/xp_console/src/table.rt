@@ -4,22 +4,29 @@ use crate::age::{Age, DAY, DayTime};
 use crate::status::{EndedCall, ExchangeStatus, LineStatus, LiveCall, Party, Totals};
 use crate::words::state_text;
 use std::alloc::{AllocError, Global};
+use std::fmt::Write;
 
 /// How many ended calls are told.
 const MOST_ENDED: usize = 10;
 
-/// What stands where there is nothing to tell.
-const NONE: &str = "-";
-
 /// What the exchange shows of one moment, as tables: the lines, the live calls, the calls that ended last, the totals.
 pub(crate) fn status_table(alloc: Global, status: &ExchangeStatus) -> Result<String, AllocError> {
-    let served = Age(status.moment.saturating_sub(status.started));
-    let mut text = format!(in alloc; "serving for {served}\n")?;
-    push_lines(alloc, &mut text, status)?;
-    push_calls(alloc, &mut text, &status.calls)?;
-    push_ended(alloc, &mut text, &status.recent)?;
-    push_totals(alloc, &mut text, &status.totals)?;
+    let mut text = String::new(alloc);
+    push_tables(alloc, &mut text, status)?;
     Ok(text)
+}
+
+fn push_tables(
+    alloc: Global,
+    text: &mut String,
+    status: &ExchangeStatus,
+) -> Result<(), AllocError> {
+    let served = Age(status.moment.saturating_sub(status.started));
+    writeln!(text, "serving for {served}")?;
+    push_lines(alloc, text, status)?;
+    push_calls(alloc, text, &status.calls)?;
+    push_ended(alloc, text, &status.recent)?;
+    push_totals(text, &status.totals)
 }
 
 fn push_lines(alloc: Global, text: &mut String, status: &ExchangeStatus) -> Result<(), AllocError> {
@@ -39,44 +46,50 @@ fn push_line(
     moment: u64,
     line: &LineStatus,
 ) -> Result<(), AllocError> {
-    text.push_str(line_columns(alloc, moment, line)?.as_str())?;
+    push_line_columns(alloc, text, moment, line)?;
     match line.peer {
-        Some(peer) => text.push_str(peer.to_string(alloc)?.as_str())?,
-        None => text.push_str(NONE)?,
+        Some(peer) => write!(text, "{peer}")?,
+        None => text.push_str("-")?,
     }
     if line.station.as_str() != line.address.as_str() {
-        text.push_str(", station ")?;
-        text.push_str(line.station.as_str())?;
+        write!(text, ", station {}", line.station.as_str())?;
     }
-    if let Some(since) = line.router_unreachable_since {
-        text.push_str(unreachable(alloc, moment, since)?.as_str())?;
+    match line.router_unreachable_since {
+        Some(since) => push_unreachable(text, moment, since),
+        None => text.push_str("\n"),
     }
-    text.push_str("\n")
 }
 
-fn line_columns(alloc: Global, moment: u64, line: &LineStatus) -> Result<String, AllocError> {
+fn push_line_columns(
+    alloc: Global,
+    text: &mut String,
+    moment: u64,
+    line: &LineStatus,
+) -> Result<(), AllocError> {
     let name = line.name.as_str();
     let address = line.address.as_str();
     let state = state_text(line.state);
-    let age = Age(moment.saturating_sub(line.since)).to_string(alloc)?;
-    let age = age.as_str();
-    let call = match line.call {
-        Some(call) => call.to_string(alloc)?,
-        None => String::from_str(alloc, NONE)?,
-    };
-    let call = call.as_str();
-    format!(in alloc; "{name:<16} {address:<15} {state:<20} {age:>10} {call:>8} ")
+    write!(text, "{name:<16} {address:<15} {state:<20} ")?;
+    push_age(alloc, text, moment.saturating_sub(line.since))?;
+    match line.call {
+        Some(call) => write!(text, " {call:>8} "),
+        None => text.push_str("        - "),
+    }
+}
+
+/// For how many seconds something has been so, at the right of its column.
+fn push_age(alloc: Global, text: &mut String, seconds: u64) -> Result<(), AllocError> {
+    let age = Age(seconds).to_string(alloc)?;
+    write!(text, "{:>10}", age.as_str())
 }
 
 /// Since when a router has been unreachable, as the time of day (UTC), or for how long, where that is a day or more.
-fn unreachable(alloc: Global, moment: u64, since: u64) -> Result<String, AllocError> {
+fn push_unreachable(text: &mut String, moment: u64, since: u64) -> Result<(), AllocError> {
     let age = moment.saturating_sub(since);
     if age < DAY {
-        let since = DayTime(since);
-        format!(in alloc; ", router unreachable since {since}")
+        writeln!(text, ", router unreachable since {}", DayTime(since))
     } else {
-        let age = Age(age);
-        format!(in alloc; ", router unreachable for {age}")
+        writeln!(text, ", router unreachable for {}", Age(age))
     }
 }
 
@@ -85,25 +98,35 @@ fn push_calls(alloc: Global, text: &mut String, calls: &[LiveCall]) -> Result<()
         "\n   call caller           called                  for  from caller  from called\n",
     )?;
     for call in calls {
-        text.push_str(call_row(alloc, call)?.as_str())?;
+        push_call(alloc, text, call)?;
     }
     Ok(())
 }
 
-fn call_row(alloc: Global, call: &LiveCall) -> Result<String, AllocError> {
-    let number = call.number;
-    let caller = call.caller.line.as_str();
+fn push_call(alloc: Global, text: &mut String, call: &LiveCall) -> Result<(), AllocError> {
     let called = call.called.line.as_str();
-    let age = match call.connected {
-        Some(_) => Age(call.seconds).to_string(alloc)?,
-        None => String::from_str(alloc, "ringing")?,
-    };
-    let age = age.as_str();
-    let from_caller = call.segments_from_caller;
-    let from_called = call.segments_from_called;
-    format!(in alloc;
-        "{number:>7} {caller:<16} {called:<16} {age:>10} {from_caller:>12} {from_called:>12}\n"
-    )
+    push_parties(text, call.number, &call.caller, called)?;
+    match call.connected {
+        Some(_) => push_age(alloc, text, call.seconds)?,
+        None => text.push_str("   ringing")?,
+    }
+    push_segments(text, call.segments_from_caller, call.segments_from_called)?;
+    text.push_str("\n")
+}
+
+/// The columns that say between which lines a call is.
+fn push_parties(
+    text: &mut String,
+    number: u64,
+    caller: &Party,
+    called: &str,
+) -> Result<(), AllocError> {
+    let caller = caller.line.as_str();
+    write!(text, "{number:>7} {caller:<16} {called:<16} ")
+}
+
+fn push_segments(text: &mut String, caller: u64, called: u64) -> Result<(), AllocError> {
+    write!(text, " {caller:>12} {called:>12}")
 }
 
 /// The calls that ended last, the latest first.
@@ -112,53 +135,42 @@ fn push_ended(alloc: Global, text: &mut String, calls: &[EndedCall]) -> Result<(
         "\n  ended caller           called                  for  from caller  from called cause\n",
     )?;
     for call in calls.iter().rev().take(MOST_ENDED) {
-        text.push_str(ended_row(alloc, call)?.as_str())?;
+        push_ended_call(alloc, text, call)?;
     }
     Ok(())
 }
 
-fn ended_row(alloc: Global, call: &EndedCall) -> Result<String, AllocError> {
-    let number = call.number;
-    let caller = call.caller.line.as_str();
-    let called = line_of(&call.called);
-    let age = Age(call.seconds).to_string(alloc)?;
-    let age = age.as_str();
-    let from_caller = call.segments_from_caller;
-    let from_called = call.segments_from_called;
-    let cause = call.cause;
-    let diagnostic = call.diagnostic;
-    format!(in alloc;
-        "{number:>7} {caller:<16} {called:<16} {age:>10} {from_caller:>12} {from_called:>12} {cause:02x} {diagnostic}\n"
-    )
+fn push_ended_call(alloc: Global, text: &mut String, call: &EndedCall) -> Result<(), AllocError> {
+    push_parties(text, call.number, &call.caller, line_of(&call.called))?;
+    push_age(alloc, text, call.seconds)?;
+    push_segments(text, call.segments_from_caller, call.segments_from_called)?;
+    writeln!(text, " {:02x} {}", call.cause, call.diagnostic)
 }
 
 fn line_of(party: &Option<Party>) -> &str {
     match party {
         Some(party) => party.line.as_str(),
-        None => NONE,
+        None => "-",
     }
 }
 
-fn push_totals(alloc: Global, text: &mut String, totals: &Totals) -> Result<(), AllocError> {
-    text.push_str(totals_rows(alloc, totals)?.as_str())
-}
-
-fn totals_rows(alloc: Global, totals: &Totals) -> Result<String, AllocError> {
+fn push_totals(text: &mut String, totals: &Totals) -> Result<(), AllocError> {
     let refused = refused_count(totals);
-    let calls = totals.calls;
-    let events = totals.events;
-    let stalls = totals.stalls;
-    let waiting = totals.records_waiting;
-    let failures = totals.router_failures;
-    let from_callers = totals.segments_from_callers;
-    let from_called = totals.segments_from_called;
-    let received = totals.octets_received;
-    let sent = totals.octets_sent;
-    format!(in alloc;
-        "\ncalls {calls}, refused {refused}, events {events}, stalls {stalls}, records waiting {waiting}\n\
-        failed connections to routers {failures}\n\
-        segments of ended calls from callers {from_callers}, from called {from_called}\n\
-        octets received {received}, sent {sent}\n"
+    write!(
+        text,
+        "\ncalls {}, refused {refused}, events {}, stalls {}, records waiting {}\n\
+        failed connections to routers {}\n\
+        segments of ended calls from callers {}, from called {}\n\
+        octets received {}, sent {}\n",
+        totals.calls,
+        totals.events,
+        totals.stalls,
+        totals.records_waiting,
+        totals.router_failures,
+        totals.segments_from_callers,
+        totals.segments_from_called,
+        totals.octets_received,
+        totals.octets_sent,
     )
 }
 

@@ -69,9 +69,6 @@ impl<A: Allocator + Copy> Journal<A> {
         ensures given { self.new.given ≡ self.old.given }
         ensures waiting { self.new.waiting ≡ self.old.waiting }
     {
-        if count <= self.spares.len() {
-            return Ok(());
-        }
         self.waiting.reserve(count)?;
         while self.spares.len() < count {
             self.spares.push(Spare::new(alloc)?)?;
@@ -86,10 +83,8 @@ impl<A: Allocator + Copy> Journal<A> {
         ensures ok { OnOk result (HasHandedOver self.old self.new) }
         ensures err { OnErr result (self.new ≡ self.old) }
     {
-        let mut taken = Vec::new(alloc);
-        taken.append(&mut self.waiting)?;
-        self.given.extend(taken.as_slice());
-        self.given_count += taken.len() as u64;
+        let mut taken = Vec::with_capacity(alloc, self.waiting.len())?;
+        self.take_records_into(&mut taken);
         Ok(taken)
     }
 

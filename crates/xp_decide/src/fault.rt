@@ -7,7 +7,7 @@ use xp_causes::Refusal;
 use xp_facilities::FacilityFault;
 
 /// Why no line rings for a call request.
-#[derive(Clone, Copy, PartialEq, Eq)]
+#[derive(Clone, Copy)]
 pub enum CallFault {
     /// The call is refused, and the caller receives a clear indication.
     Refused(Refusal),

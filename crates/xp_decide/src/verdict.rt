@@ -4,7 +4,7 @@ use xp_facilities::{IndicatedFacilities, Reason, RequestedFacilities};
 use xp_subs::LineNo;
 
 /// The outcome of a call request.
-#[derive(Drop, PartialEq)]
+#[derive(Drop)]
 pub enum Verdict<A: Allocator = Global> {
     /// A line rings.
     Take(IncomingCall<A>),
@@ -13,7 +13,7 @@ pub enum Verdict<A: Allocator = Global> {
 }
 
 /// An incoming call for a line.
-#[derive(Drop, PartialEq)]
+#[derive(Drop)]
 pub struct IncomingCall<A: Allocator = Global> {
     /// An idle line of the address where the call ends.
     pub line: LineNo,

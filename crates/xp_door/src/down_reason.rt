@@ -2,6 +2,7 @@
 
 ghost use Rattle.std.specs.Prelude.{◌≡◌, ◌↔◌, ◌⊎◌};
 ghost use Rattle.std.specs.IoError.{error_kind};
+ghost use Rattle.xp_door.specs.steps.Notices.{numbered_text, reason_text};
 
 use std::io::ErrorKind;
 use std::{fmt, io};
@@ -47,6 +48,40 @@ impl DownReason {
             _ => DownReason::Failed(number_of(error)),
         }
     }
+
+    /// The words of its text, and the number between them, if it has one.
+    fn words(&self) -> (&'static str, Option<u32>, &'static str)
+        ensures { numbered_text result.0.now result.1 result.2.now ≡ reason_text self.now }
+    {
+        match *self {
+            DownReason::Closed => ("closed by the peer", None, ""),
+            DownReason::Reset => ("reset by the peer", None, ""),
+            DownReason::NoAnswer(seconds) => (
+                "no answer for ",
+                Some(u32::from(seconds)),
+                " seconds",
+            ),
+            DownReason::Unreachable => ("unreachable", None, ""),
+            DownReason::Failed(number) => ("connection error ", Some(number), ""),
+            DownReason::Version(version) => {
+                (
+                    "no frame of RFC 1613 (version ",
+                    Some(u32::from(version)),
+                    " found)",
+                )
+            }
+            DownReason::Length(length) => {
+                (
+                    "no frame of RFC 1613 (length ",
+                    Some(u32::from(length)),
+                    " found)",
+                )
+            }
+            DownReason::Replaced => ("replaced by another connection", None, ""),
+            DownReason::GivenUp => ("given up by the exchange", None, ""),
+            DownReason::Reload => ("ended by a reload", None, ""),
+        }
+    }
 }
 
 /// The system's number of an error, 0 where it has none.
@@ -60,24 +95,13 @@ fn number_of(error: &io::Error) -> u32 {
 /// The text of the reason, such as `closed by the peer`.
 impl fmt::Display for DownReason {
     ghost use Rattle.std.specs.Prelude.{Some};
-    ghost use Rattle.xp_door.specs.steps.Notices.{reason_text};
 
     ghost output = { λ reason. Some (reason_text reason) };
 
     fn fmt<W: fmt::Write>(&self, f: &mut fmt::Formatter<W>) -> fmt::Result {
-        match self {
-            DownReason::Closed => f.write_str("closed by the peer"),
-            DownReason::Reset => f.write_str("reset by the peer"),
-            DownReason::NoAnswer(seconds) => write!(f, "no answer for {seconds} seconds"),
-            DownReason::Unreachable => f.write_str("unreachable"),
-            DownReason::Failed(number) => write!(f, "connection error {number}"),
-            DownReason::Version(version) => {
-                write!(f, "no frame of RFC 1613 (version {version} found)")
-            }
-            DownReason::Length(length) => write!(f, "no frame of RFC 1613 (length {length} found)"),
-            DownReason::Replaced => f.write_str("replaced by another connection"),
-            DownReason::GivenUp => f.write_str("given up by the exchange"),
-            DownReason::Reload => f.write_str("ended by a reload"),
+        match self.words() {
+            (text, None, _) => f.write_str(text),
+            (before, Some(number), after) => write!(f, "{before}{number}{after}"),
         }
     }
 }

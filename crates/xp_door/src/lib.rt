@@ -15,6 +15,7 @@ mod hosts;
 mod lines_behind;
 mod locks;
 mod marks;
+mod notice_words;
 mod notices;
 mod opening;
 mod packet_fronts;

@@ -69,8 +69,10 @@ impl LinesBehind {
 
     /// Looks which lines are free.
     fn look(&mut self) {
-        for (candidate, line) in self.candidates.iter_mut().zip(self.lines.iter()) {
-            candidate.is_free = line.is_free();
+        for (place, line) in self.lines.iter().enumerate() {
+            if let Some(candidate) = self.candidates.get_mut(place) {
+                candidate.is_free = line.is_free();
+            }
         }
     }
 

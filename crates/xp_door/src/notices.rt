@@ -3,11 +3,14 @@
 ghost use Rattle.std.specs.Prelude.{◌≡◌, ◌<◌, ◌↔◌, ◌∷◌, [], ◌++◌, IfOk, IsTrue, length};
 ghost use Rattle.std.specs.Bool.{OnFalse, OnTrue};
 ghost use Rattle.xp_door.specs.Notices.{line_of};
+ghost use Rattle.xp_door.specs.steps.Notices.{text_of, words_text};
 
 use crate::calls::ClearedCall;
 use crate::connect_fault::ConnectFault;
 use crate::down_reason::DownReason;
 use crate::locks::hold;
+use crate::notice_words::Subject::{Call, Count, Fault, Nothing, Peer, Reason};
+use crate::notice_words::Words;
 use crate::tap::Tap;
 use crate::trace::Trace;
 use crate::traffic::Traffic;
@@ -23,6 +26,9 @@ use xp_subs::LineNo;
 
 /// How many notices wait at most.
 const MOST_WAITING: usize = 1_024;
+
+/// How the text of most notices begins that are of a peer.
+const FROM: &str = "connection from ";
 
 /// What has become of a line's connections.
 #[derive(Clone, Copy)]
@@ -100,62 +106,76 @@ impl Notice {
             | Notice::DoorWorks => None,
         }
     }
+
+    /// The words of its text, without its line.
+    fn words(&self) -> Words
+        ensures { words_text result ≡ text_of self.now }
+    {
+        match self {
+            Notice::Refused { peer, .. } => Words(FROM, Peer(*peer), " refused"),
+            Notice::HasOne { peer, .. } => Words(FROM, Peer(*peer), " refused: the line has one"),
+            Notice::MoreRefused { count, .. } => {
+                Words("", Count(*count), " more connections refused")
+            }
+            Notice::Replaced { peer, .. } => Words(
+                "replaced by a connection from ",
+                Peer(*peer),
+                "",
+            ),
+            Notice::Up { peer, .. } => Words("up from ", Peer(*peer), ""),
+            Notice::Down { reason, .. } => Words("down: ", Reason(*reason), ""),
+            Notice::Connected { peer, .. } => Words("connected to ", Peer(*peer), ""),
+            Notice::Closed { .. } => Words("connection closed", Nothing, ""),
+            Notice::NotConnected { fault, .. } => {
+                Words("no connection to the router: ", Fault(*fault), "")
+            }
+            Notice::CallCleared { call, .. } => Words("", Call(*call), ""),
+            Notice::PortFailing { .. } | Notice::DoorFailing => {
+                Words("port fails: no connection can be accepted", Nothing, "")
+            }
+            Notice::PortWorks { .. } | Notice::DoorWorks => Words("port works again", Nothing, ""),
+            Notice::NoRouter { peer } => {
+                Words(FROM, Peer(*peer), " refused: no line is behind this router")
+            }
+            Notice::NoFreeLine { peer } => Words(FROM, Peer(*peer), " refused: no line is free"),
+            Notice::NoCaller { peer } => {
+                Words(
+                    "call from ",
+                    Peer(*peer),
+                    " refused: no line is of its calling address",
+                )
+            }
+            Notice::NoRoom { peer } => {
+                Words(
+                    FROM,
+                    Peer(*peer),
+                    " refused: too many wait for their first frame",
+                )
+            }
+            Notice::NoFrame { peer } => {
+                Words(
+                    FROM,
+                    Peer(*peer),
+                    " closed: no whole frame came in 10 seconds",
+                )
+            }
+            Notice::NoFraming { peer } => Words(FROM, Peer(*peer), " closed: no frame of RFC 1613"),
+            Notice::EndedEarly { peer } => {
+                Words(FROM, Peer(*peer), " ended before its first frame was whole")
+            }
+        }
+    }
 }
 
 /// The text of the notice, without its line, such as `up from 10.0.0.9:40000`.
 impl fmt::Display for Notice {
     ghost use Rattle.std.specs.Prelude.{Some};
-    ghost use Rattle.xp_door.specs.steps.Notices.{text_of};
 
     ghost output = { λ notice. Some (text_of notice) };
 
     fn fmt<W: fmt::Write>(&self, f: &mut fmt::Formatter<W>) -> fmt::Result {
-        match self {
-            Notice::Refused { peer, .. } => write!(f, "connection from {peer} refused"),
-            Notice::HasOne { peer, .. } => {
-                write!(f, "connection from {peer} refused: the line has one")
-            }
-            Notice::MoreRefused { count, .. } => write!(f, "{count} more connections refused"),
-            Notice::Replaced { peer, .. } => write!(f, "replaced by a connection from {peer}"),
-            Notice::Up { peer, .. } => write!(f, "up from {peer}"),
-            Notice::Down { reason, .. } => write!(f, "down: {reason}"),
-            Notice::Connected { peer, .. } => write!(f, "connected to {peer}"),
-            Notice::Closed { .. } => f.write_str("connection closed"),
-            Notice::NotConnected { fault, .. } => write!(f, "no connection to the router: {fault}"),
-            Notice::CallCleared { call, .. } => write!(f, "{call}"),
-            Notice::PortFailing { .. } | Notice::DoorFailing => {
-                f.write_str("port fails: no connection can be accepted")
-            }
-            Notice::PortWorks { .. } | Notice::DoorWorks => f.write_str("port works again"),
-            Notice::NoRouter { peer } => {
-                write!(
-                    f,
-                    "connection from {peer} refused: no line is behind this router"
-                )
-            }
-            Notice::NoFreeLine { peer } => {
-                write!(f, "connection from {peer} refused: no line is free")
-            }
-            Notice::NoCaller { peer } => write!(
-                f,
-                "call from {peer} refused: no line is of its calling address"
-            ),
-            Notice::NoRoom { peer } => write!(
-                f,
-                "connection from {peer} refused: too many wait for their first frame"
-            ),
-            Notice::NoFrame { peer } => write!(
-                f,
-                "connection from {peer} closed: no whole frame came in 10 seconds"
-            ),
-            Notice::NoFraming { peer } => {
-                write!(f, "connection from {peer} closed: no frame of RFC 1613")
-            }
-            Notice::EndedEarly { peer } => write!(
-                f,
-                "connection from {peer} ended before its first frame was whole"
-            ),
-        }
+        let Words(before, subject, after) = self.words();
+        write!(f, "{before}{subject}{after}")
     }
 }
 

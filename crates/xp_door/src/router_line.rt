@@ -25,7 +25,6 @@ pub struct Arrival {
 }
 
 /// What a line behind a router has now, or waits for.
-#[derive(Drop)]
 enum Stage {
     /// It has no connection.
     Free,
@@ -41,6 +40,66 @@ enum Stage {
     Busy,
     /// Its thread has ended.
     Closed,
+}
+
+impl Drop for Stage {
+    fn drop(self) {
+        match self {
+            Stage::Free | Stage::Failed(_) | Stage::Busy | Stage::Closed => {}
+            Stage::Handed(_) | Stage::Wanted(_) | Stage::Begun(_) => {}
+        }
+    }
+}
+
+impl Stage {
+    /// After the line's thread has asked for a connection that the door has given: the connection comes with it.
+    fn taken(self) -> (Stage, Option<Arrival>) {
+        match self {
+            Stage::Handed(arrival) => (Stage::Busy, Some(arrival)),
+            Stage::Closed => (Stage::Closed, None),
+            _ => (Stage::Free, None),
+        }
+    }
+
+    /// After the line's thread has asked for a connection to the router, where this one goes back to the door, or another that the
+    /// thread has not taken.
+    fn wanted(self, back: Option<Arrival>) -> Stage {
+        match self {
+            Stage::Handed(arrival) => Stage::Wanted(Some(arrival)),
+            _ => Stage::Wanted(back),
+        }
+    }
+
+    /// After the door has begun a connection to the router, or could not, where the line's thread waits for one: what goes back to
+    /// the door comes with it.
+    fn begun(self, begun: Result<TcpStream, ConnectFault>) -> (Stage, Option<Arrival>) {
+        match self {
+            Stage::Wanted(back) => match begun {
+                Ok(stream) => (Stage::Begun(stream), back),
+                Err(reason) => (Stage::Failed(reason), back),
+            },
+            other => (other, None),
+        }
+    }
+
+    /// After the line's thread has asked what has become of the connection that it waits for, which comes with it.
+    fn attempted(self) -> (Stage, Attempt) {
+        match self {
+            Stage::Begun(stream) => (Stage::Busy, Attempt::Begun(stream)),
+            Stage::Failed(reason) => (Stage::Busy, Attempt::Failed(reason)),
+            other => (other, Attempt::Waits),
+        }
+    }
+
+    /// After the line's connection has gone, or is waited for no more: a connection of the router stays that the line's thread has
+    /// not taken.
+    fn released(self) -> Stage {
+        match self {
+            Stage::Handed(arrival) | Stage::Wanted(Some(arrival)) => Stage::Handed(arrival),
+            Stage::Closed => Stage::Closed,
+            _ => Stage::Free,
+        }
+    }
 }
 
 /// What has become of a connection that a line's thread waits for.
@@ -169,17 +228,9 @@ impl RouterLine {
     /// Takes the connection that the door has given to the line, which has none. From now on it has that one.
     pub fn take_handed(&self) -> Option<Arrival> {
         let mut side = hold(&self.side)?;
-        match mem::replace(&mut side.stage, Stage::Free) {
-            Stage::Handed(arrival) => {
-                side.stage = Stage::Busy;
-                Some(arrival)
-            }
-            Stage::Closed => {
-                side.stage = Stage::Closed;
-                None
-            }
-            _ => None,
-        }
+        let (stage, handed) = mem::replace(&mut side.stage, Stage::Free).taken();
+        side.stage = stage;
+        handed
     }
 
     /// Asks the door for a connection to the router. A connection of the router that the line was given, this one or another that
@@ -188,11 +239,8 @@ impl RouterLine {
         let Some(mut side) = hold(&self.side) else {
             return false;
         };
-        let back = match mem::replace(&mut side.stage, Stage::Free) {
-            Stage::Handed(arrival) => Some(arrival),
-            _ => back,
-        };
-        side.stage = Stage::Wanted(back);
+        let stage = mem::replace(&mut side.stage, Stage::Free).wanted(back);
+        side.stage = stage;
         drop(side);
         if let Some(bell) = &self.bell {
             bell.ring_for(self.line);
@@ -205,14 +253,9 @@ impl RouterLine {
         let Some(mut side) = hold(&self.side) else {
             return Attempt::Waits;
         };
-        match mem::replace(&mut side.stage, Stage::Busy) {
-            Stage::Begun(stream) => Attempt::Begun(stream),
-            Stage::Failed(reason) => Attempt::Failed(reason),
-            other => {
-                side.stage = other;
-                Attempt::Waits
-            }
-        }
+        let (stage, attempt) = mem::replace(&mut side.stage, Stage::Free).attempted();
+        side.stage = stage;
+        attempt
     }
 
     /// What the door has to do: the line's thread may wait for a connection that is not begun.
@@ -237,19 +280,9 @@ impl RouterLine {
         if side.router != Some(router) {
             return None;
         }
-        match mem::replace(&mut side.stage, Stage::Free) {
-            Stage::Wanted(back) => {
-                side.stage = match begun {
-                    Ok(stream) => Stage::Begun(stream),
-                    Err(reason) => Stage::Failed(reason),
-                };
-                back
-            }
-            other => {
-                side.stage = other;
-                None
-            }
-        }
+        let (stage, back) = mem::replace(&mut side.stage, Stage::Free).begun(begun);
+        side.stage = stage;
+        back
     }
 
     /// The line has no connection any more, and waits for none. One of the router that it had to give back is given to it again.
@@ -257,11 +290,8 @@ impl RouterLine {
         let Some(mut side) = hold(&self.side) else {
             return;
         };
-        side.stage = match mem::replace(&mut side.stage, Stage::Free) {
-            Stage::Handed(arrival) | Stage::Wanted(Some(arrival)) => Stage::Handed(arrival),
-            Stage::Closed => Stage::Closed,
-            _ => Stage::Free,
-        };
+        let stage = mem::replace(&mut side.stage, Stage::Free).released();
+        side.stage = stage;
     }
 
     /// The line's thread has ended: connections are closed as they come.

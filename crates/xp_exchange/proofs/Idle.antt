@@ -70,3 +70,12 @@ kept_at streams line at kept within here =
 pub within_rests : (streams : List DeframerState) (unfinished : List (List ℕ)) (line at : ℕ) → rests streams ≡ unfinished → at ≡ line → line < length unfinished → at < length streams
 within_rests streams unfinished line at same here within =
     subst (λ n. at < n) (length-map streams (λ held. held.rest)) (subst (λ list. at < length list) (sym same) (subst (λ i. i < length unfinished) (sym here) within))
+
+-- there are as many streams as before
+pub lines_kept : (streams : List DeframerState) (unfinished : List (List ℕ)) (at : ℕ) (kept : DeframerState) → rests streams ≡ unfinished → length (rests (set streams at kept)) ≡ length unfinished
+lines_kept streams unfinished at kept same =
+    length-map (set streams at kept) (λ held. held.rest) ∙ length-set streams at kept ∙ sym (length-map streams (λ held. held.rest)) ∙ ap length same
+
+-- each of the streams is between frames
+pub between_at : (streams : List DeframerState) (at : ℕ) (taken : DeframerState) → at < length streams → All IsBetweenFrames streams → taken ≡ get_or streams at taken → IsBetweenFrames taken
+between_at streams at taken within all read = subst IsBetweenFrames (sym read) (all at taken within)

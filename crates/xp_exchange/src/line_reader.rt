@@ -3,9 +3,10 @@
 ghost use Rattle.std.specs.Prelude.{◌≡◌, ◌<◌, [], ◌∷◌, All, IfErr, IfOk, None, OnOk, Some, length};
 ghost use Rattle.xp_step.specs.Exchange.{world_of};
 ghost use Rattle.xp_exchange.specs.FrameEvents.{CanCome};
-ghost use Rattle.xp_exchange.specs.Play.{Plays, RefusesLine, event_of, is_off_at, moment_after};
+ghost use Rattle.xp_exchange.specs.Play.{Plays, RefusesLine, event_of, is_off_at, moment_after, risen};
 ghost use Rattle.xp_exchange.specs.steps.Playing.{IsRead, RefusesCommand};
 ghost use Rattle.xp_script.specs.Command.{HasLine, HasTables, reload_of, said};
+ghost use Rattle.xp_script.specs.declared.command.Command.TheVariants.{In};
 ghost use Rattle.xp_subs.specs.Tables.{line_count};
 
 use crate::fault::ReplayFault;
@@ -17,7 +18,7 @@ use std::alloc::{AllocError, Allocator, Global};
 use std::collections::VecDeque;
 use std::mem;
 use xp_core::Core;
-use xp_script::{Command, LineFault, NamedTables};
+use xp_script::{Command, InputOctets, LineFault, NamedTables};
 use xp_step::{Event, What};
 use xp_subs::{LineNo, Subs};
 
@@ -123,38 +124,66 @@ impl<A: Allocator + Copy> LineReader<A> {
         ensures lines { length self.new.streams ≡ length self.old.streams }
         ensures moment { self.new.moment ≡ self.old.moment }
     {
-        let (line, what) = match command {
+        let moment = self.moment;
+        match command {
             Command::Nothing | Command::At(_) => {
                 events.clear();
-                return Ok(());
+                Ok(())
             }
             // Such a command has no events.
-            Command::Reload(_) => return Err(AllocError),
+            Command::Reload(_) => Err(AllocError),
             Command::Up(line) => {
-                if is_off(core, line) {
-                    self.streams.begin(line);
-                }
-                (line, What::Up)
+                self.rise(core, line);
+                put(line, moment, What::Up, events)
             }
-            Command::Down(line) => (line, What::Down),
-            Command::Expire(line) => (line, What::Expire),
-            Command::In(line, octets) => {
-                if is_off(core, line) {
-                    events.clear();
-                    return Ok(());
-                }
-                let arrival = Arrival {
-                    line,
-                    modulus: core.subs().modulus_of(line),
-                    moment: self.moment,
-                };
-                self.streams
-                    .read_events(arrival, octets.as_slice(), events)?;
-                self.octets = octets.into_vec();
-                return Ok(());
-            }
+            Command::Down(line) => put(line, moment, What::Down, events),
+            Command::Expire(line) => put(line, moment, What::Expire, events),
+            Command::In(line, octets) => self.read_octets(core, line, octets, events),
+        }
+    }
+
+    /// Begins the stream of a line anew, if it is out of service.
+    #[inline(always)]
+    fn rise(&mut self, core: &Core<A>, line: LineNo)
+        requires { line < length self.old.streams }
+        ensures streams { self.new.streams ≡ risen (is_off_at (world_of core.now) line) line self.old.streams }
+        ensures moment { self.new.moment ≡ self.old.moment }
+    {
+        if is_off(core, line) {
+            self.streams.begin(line);
+        }
+    }
+
+    /// Fills the queue with the events of octets that come in on a line, and keeps their vector. On a line out of service they are
+    /// no event.
+    #[inline(always)]
+    fn read_octets(
+        &mut self,
+        core: &Core<A>,
+        line: LineNo,
+        octets: InputOctets<A>,
+        events: &mut VecDeque<Event<A>, A>,
+    ) -> Result<(), AllocError>
+        requires line { line < line_count core.now.subs }
+        requires lines { length self.old.streams ≡ line_count core.now.subs }
+        ensures plays { OnOk result (Plays (record { exchange = core.now; unfinished = self.old.streams; moment = self.old.moment; named = [] }) (In line octets) events.new.items self.new.streams None) }
+        ensures fit { OnOk result (All (λ event. (event.line < line_count core.now.subs) × CanCome event.what) events.new.items) }
+        ensures lines { length self.new.streams ≡ length self.old.streams }
+        ensures moment { self.new.moment ≡ self.old.moment }
+    {
+        if is_off(core, line) {
+            events.clear();
+            return Ok(());
+        }
+        let arrival = Arrival {
+            line,
+            modulus: core.subs().modulus_of(line),
+            moment: self.moment,
         };
-        put(line, self.moment, what, events)
+        self.streams
+            .read_events(arrival, octets.as_slice(), events)?;
+        self.octets = octets.into_vec();
+        Ok(())
     }
 }
 

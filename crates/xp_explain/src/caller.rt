@@ -17,7 +17,6 @@ impl<'q, L: Lines> Question<'q, L> {
         request: &Request,
     ) -> Result<(), AllocError> {
         self.push_packet_rules(text)?;
-        self.push_outgoing(text)?;
         self.push_selection(text, request.asked.selection)?;
         self.push_intent(text, request.intent)
     }
@@ -37,7 +36,6 @@ impl<'q, L: Lines> Question<'q, L> {
         }
         self.push_packet_rules(text)?;
         if rule != Rule::OutgoingBarred {
-            self.push_outgoing(text)?;
             let selection = self.selection(alloc)?;
             self.push_selection(text, selection)?;
         }
@@ -55,52 +53,46 @@ impl<'q, L: Lines> Question<'q, L> {
 
     fn push_packet_rules(&self, text: &mut String) -> Result<(), AllocError> {
         let user = self.block.user.len();
-        writeln!(text, "rules 1 to 3: the facility field is in order")?;
-        writeln!(text, "rule 4: {user} octets of user data are not too many")
+        writeln!(
+            text,
+            "rules 1 to 3: the facility field is in order\n\
+            rule 4: {user} octets of user data are not too many"
+        )
     }
 
-    fn push_outgoing(&self, text: &mut String) -> Result<(), AllocError> {
-        let address = &self.station.address;
-        writeln!(text, "rule 5: station {address} has no outgoing_barred")
-    }
-
-    /// Which group the caller selects.
+    /// That the caller makes calls, and which group it selects.
     fn push_selection(&self, text: &mut String, selection: Selection) -> Result<(), AllocError> {
         let address = &self.station.address;
-        write!(text, "rule 6: station {address} selects ")?;
+        write!(
+            text,
+            "rule 5: station {address} has no outgoing_barred\n\
+            rule 6: station {address} selects "
+        )?;
         match selection {
-            Selection::Closed(index) => {
-                write!(text, "index {index}")?;
-                self.push_group_of(text, index)?;
-            }
+            Selection::Closed(index) => self.push_group_of(text, "", index),
             Selection::WithOutsideAccess(index) => {
-                write!(text, "outgoing access and index {index}")?;
-                self.push_group_of(text, index)?;
+                self.push_group_of(text, "outgoing access and ", index)
             }
-            Selection::Nothing => self.push_preferential(text)?,
+            Selection::Nothing => self.push_preferential(text),
         }
-        writeln!(text, "")
     }
 
     /// Which group is taken where the caller selects none.
     fn push_preferential(&self, text: &mut String) -> Result<(), AllocError> {
         if self.station.memberships.is_empty() {
-            return write!(text, "no group, and has none");
+            return text.push_str("no group, and has none\n");
         }
         match self.station.preferential {
-            None => write!(text, "no group, and has no preferential one"),
-            Some(index) => {
-                write!(text, "no group; preferential is index {index}")?;
-                self.push_group_of(text, index)
-            }
+            None => text.push_str("no group, and has no preferential one\n"),
+            Some(index) => self.push_group_of(text, "no group; preferential is ", index),
         }
     }
 
-    /// The group with this index of the caller, and what is barred in it.
-    fn push_group_of(&self, text: &mut String, index: u16) -> Result<(), AllocError> {
+    /// An index of the caller, behind these words, the group with this index, and what is barred in it.
+    fn push_group_of(&self, text: &mut String, before: &str, index: u16) -> Result<(), AllocError> {
         let memberships = &self.station.memberships;
         match memberships.iter().find(|held| held.index == index) {
-            None => write!(text, ", which it has not"),
+            None => writeln!(text, "{before}index {index}, which it has not"),
             Some(held) => {
                 let name = self.subs.group_name(held.group).unwrap_or("");
                 let barred = if held.outgoing_barred {
@@ -108,7 +100,7 @@ impl<'q, L: Lines> Question<'q, L> {
                 } else {
                     ""
                 };
-                write!(text, ", the group {name}{barred}")
+                writeln!(text, "{before}index {index}, the group {name}{barred}")
             }
         }
     }

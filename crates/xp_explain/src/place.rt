@@ -65,7 +65,7 @@ impl<'q, L: Lines> Question<'q, L> {
             return Ok(());
         };
         self.push_station_rules(text, wanted, station, None)?;
-        writeln!(text, "rules 12 and 13: a line is idle")
+        text.push_str("rules 12 and 13: a line is idle\n")
     }
 
     /// The address at which the call is refused.
@@ -105,7 +105,7 @@ impl<'q, L: Lines> Question<'q, L> {
             Some(line) => self.push_line(text, line)?,
             None => self.push_lines(text, target.station)?,
         }
-        writeln!(text, "")?;
+        text.push_str("\n")?;
         Ok(Some(station))
     }
 
@@ -192,10 +192,10 @@ impl<'q, L: Lines> Question<'q, L> {
                 "rule 9: let in by its index {index} of the call's group, and by incoming_access"
             ),
             Selection::Nothing if station.memberships.is_empty() => {
-                writeln!(text, "rule 9: it has no groups, and the call is open")
+                text.push_str("rule 9: it has no groups, and the call is open\n")
             }
             Selection::Nothing => {
-                writeln!(text, "rule 9: the call is open, and it has incoming_access")
+                text.push_str("rule 9: the call is open, and it has incoming_access\n")
             }
         }
     }
@@ -207,16 +207,15 @@ impl<'q, L: Lines> Question<'q, L> {
         intent: &Intent,
         station: &Station,
     ) -> Result<(), AllocError> {
-        write!(text, "rule 9: ")?;
         match intent.group {
             Some(group) => self.push_no_entry(text, group, station)?,
-            None => write!(text, "the call is in no group")?,
+            None => text.push_str("rule 9: the call is in no group")?,
         }
-        if intent.outside {
-            writeln!(text, ", and it has no incoming_access")
+        text.push_str(if intent.outside {
+            ", and it has no incoming_access\n"
         } else {
-            writeln!(text, ", and the call is not open")
-        }
+            ", and the call is not open\n"
+        })
     }
 
     /// Why the station does not let the call in by the call's group.
@@ -229,9 +228,9 @@ impl<'q, L: Lines> Question<'q, L> {
         let name = self.subs.group_name(group).unwrap_or("");
         let memberships = &station.memberships;
         if memberships.iter().any(|held| held.group == group) {
-            write!(text, "it has incoming_barred in the group {name}")
+            write!(text, "rule 9: it has incoming_barred in the group {name}")
         } else {
-            write!(text, "it is not in the group {name}")
+            write!(text, "rule 9: it is not in the group {name}")
         }
     }
 }

@@ -46,34 +46,34 @@ impl<'q, L: Lines> Question<'q, L> {
         requires { IfTaken verdict.now (λ ring. ring.line < line_count self.now.subs.now) }
         ensures { IfOk result (λ text. EndsWithVerdict self.now.subs.now verdict.now (string_bytes text)) }
     {
-        let mut text = self.rules(alloc, reasons, verdict)?;
+        let mut text = String::new(alloc);
+        self.push_rules(alloc, &mut text, reasons, verdict)?;
         let words = verdict_words(self.subs, verdict);
         writeln!(text, "{words}")?;
         Ok(text)
     }
 
     /// The rules one by one.
-    fn rules(
+    fn push_rules(
         &self,
         alloc: Global,
+        text: &mut String,
         reasons: &Reasons<'_>,
         verdict: &Verdict,
-    ) -> Result<String, AllocError>
+    ) -> Result<(), AllocError>
         requires { IfTaken verdict.now (λ ring. ring.line < line_count self.now.subs.now) }
     {
-        let mut text = String::new(alloc);
-        self.push_request(&mut text)?;
-        self.push_caller(&mut text)?;
+        self.push_request(text)?;
+        self.push_caller(text)?;
         let refused_by = reasons.refused_by;
         match &reasons.asked {
-            Err(_) => self.push_caller_refused(alloc, &mut text, refused_by)?,
+            Err(_) => self.push_caller_refused(alloc, text, refused_by),
             Ok(asked) => {
-                self.push_asked(&mut text, &asked.request)?;
-                self.push_way(&mut text, asked)?;
-                self.push_end(alloc, &mut text, asked, refused_by, verdict)?;
+                self.push_asked(text, &asked.request)?;
+                self.push_way(text, asked)?;
+                self.push_end(alloc, text, asked, refused_by, verdict)
             }
         }
-        Ok(text)
     }
 
     /// The call request.

@@ -6,7 +6,7 @@ ghost use Rattle.xp_explain.specs.steps.Rules.{rule_for_address, rule_for_caller
 use xp_causes::Refusal;
 
 /// A rule that refuses a call request: a row of the table in docs/PROTOCOL.md.
-#[derive(Clone, Copy, PartialEq, Eq)]
+#[derive(Clone, Copy, PartialEq)]
 pub enum Rule {
     /// The facility field is cut off within a facility.
     FacilityLength,

@@ -24,7 +24,7 @@ pub struct Hop<'a> {
 }
 
 /// What comes of a call where its way ends.
-#[derive(Clone, Copy, PartialEq, Eq)]
+#[derive(Clone, Copy)]
 pub enum End {
     /// This idle line takes the call.
     Taken(LineNo, Admission),

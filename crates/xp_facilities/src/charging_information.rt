@@ -6,7 +6,7 @@ use crate::parameters::{duration_octets, eight_digits};
 use crate::segment_counts::SegmentCounts;
 
 /// What the line that pays for a call is told as the call ends (X.25 clause 6.22).
-#[derive(Clone, Copy, Default, PartialEq, Eq)]
+#[derive(Clone, Copy, Default)]
 pub struct ChargingInformation {
     /// How long the call was connected, in seconds; at most 8,639,999, which is 99 days, 23 hours, 59 minutes and 59
     /// seconds.

@@ -7,7 +7,7 @@ use std::alloc::{Allocator, Global};
 use xp_packets::Octets;
 
 /// The facilities that a packet to a DTE indicates (X.25 clause 7.2).
-#[derive(Drop, PartialEq)]
+#[derive(Drop)]
 pub struct IndicatedFacilities<A: Allocator = Global> {
     /// The closed user group of the call.
     pub selection: Selection,

@@ -31,7 +31,7 @@ impl Reason {
 }
 
 /// The call redirection notification (X.25 clause 6.25.3).
-#[derive(Drop, PartialEq)]
+#[derive(Drop)]
 pub struct RedirectionNotification {
     pub reason: Reason,
     /// The address that was dialled.

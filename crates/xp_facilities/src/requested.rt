@@ -5,7 +5,7 @@ use std::alloc::{Allocator, Global};
 use xp_packets::Octets;
 
 /// The facilities that the field of a call request or call accepted packet requests (X.25 clause 7.2).
-#[derive(Drop, PartialEq)]
+#[derive(Drop)]
 pub struct RequestedFacilities<A: Allocator = Global> {
     /// The selected closed user group.
     pub selection: Selection,

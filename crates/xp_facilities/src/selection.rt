@@ -1,5 +1,5 @@
 /// The closed user group selection (X.25 clauses 6.14.6 and 6.14.7), by an index from 0 to 9,999.
-#[derive(Clone, Copy, Default, PartialEq, Eq)]
+#[derive(Clone, Copy, Default)]
 pub enum Selection {
     /// No group is selected.
     #[default]

@@ -5,7 +5,7 @@ ghost use Rattle.xp_facilities.specs.Requested.{is_marker};
 ghost use Rattle.xp_facilities.specs.Items.{octets_of, octets_of_all};
 ghost use Rattle.xp_facilities.specs.Octets.{reason_octet};
 ghost use Rattle.xp_facilities.specs.Indicated.{Writes, redirection, optional_item, table, index_fits, sizes_fit, duration_fits, counts_fit, is_in_range, most_octets, IsOfExchange};
-ghost use Rattle.xp_facilities.specs.steps.Indicated.{marked_octets};
+ghost use Rattle.xp_facilities.specs.steps.Indicated.{marked_octets, octets_of_rows};
 
 use crate::codes;
 use crate::direction_sizes::DirectionSizes;
@@ -125,40 +125,67 @@ fn field<A: Allocator>(alloc: A, told: &IndicatedFacilities<A>) -> Result<Vec<u8
     ensures digits { OnOk result (IfSome told.now.redirected (λ r. length r.dialled ≤ 15)) }
 {
     let mut field = Vec::new(alloc);
-    push(
-        &mut field,
-        codes::FAST_SELECT,
-        options(told.fast, told.reverse),
-    )?;
-    push(&mut field, codes::THROUGHPUT, throughput(told.throughput))?;
-    push(
-        &mut field,
-        codes::CLOSED_USER_GROUP,
-        two_digit_index(closed_index(told.selection)),
-    )?;
-    push(&mut field, codes::MODIFIED, modified(told.modified))?;
-    push(
-        &mut field,
-        codes::OUTSIDE_ACCESS,
-        two_digit_index(open_index(told.selection)),
-    )?;
-    push(&mut field, codes::PACKET_SIZE, pair(told.packet))?;
-    push(&mut field, codes::WINDOW_SIZE, pair(told.window))?;
-    push(
-        &mut field,
-        codes::CLOSED_USER_GROUP_EXTENDED,
-        four_digit_index(closed_index(told.selection)),
-    )?;
-    push(
-        &mut field,
-        codes::OUTSIDE_ACCESS_EXTENDED,
-        four_digit_index(open_index(told.selection)),
-    )?;
-    push(&mut field, codes::CALL_DURATION, duration(told.duration))?;
-    push(&mut field, codes::SEGMENT_COUNT, counts(told.segments))?;
-    push_redirection(&mut field, &told.redirected)?;
+    push_class_a(&mut field, told)?;
+    push_class_b(&mut field, told)?;
+    push_class_d(&mut field, told)?;
     push_dte(&mut field, told.dte.as_slice())?;
     Ok(field)
+}
+
+/// Appends the items of class A, which have one octet of parameters (clause 7.1).
+fn push_class_a<A: Allocator>(
+    field: &mut Vec<u8, A>,
+    told: &IndicatedFacilities<A>,
+) -> Result<(), AllocError>
+    requires { field.old.items ≡ octets_of_rows told.now 0 }
+    ensures { OnOk result (field.new.items ≡ octets_of_rows told.now 5) }
+{
+    let (closed, open) = (closed_index(told.selection), open_index(told.selection));
+    push(field, codes::FAST_SELECT, options(told.fast, told.reverse))?;
+    push(field, codes::THROUGHPUT, throughput(told.throughput))?;
+    push(field, codes::CLOSED_USER_GROUP, two_digit_index(closed))?;
+    push(field, codes::MODIFIED, modified(told.modified))?;
+    push(field, codes::OUTSIDE_ACCESS, two_digit_index(open))?;
+    Ok(())
+}
+
+/// Appends the items of class B, which have two octets of parameters.
+fn push_class_b<A: Allocator>(
+    field: &mut Vec<u8, A>,
+    told: &IndicatedFacilities<A>,
+) -> Result<(), AllocError>
+    requires { field.old.items ≡ octets_of_rows told.now 5 }
+    ensures { OnOk result (field.new.items ≡ octets_of_rows told.now 9) }
+{
+    let (closed, open) = (closed_index(told.selection), open_index(told.selection));
+    push(field, codes::PACKET_SIZE, pair(told.packet))?;
+    push(field, codes::WINDOW_SIZE, pair(told.window))?;
+    push(
+        field,
+        codes::CLOSED_USER_GROUP_EXTENDED,
+        four_digit_index(closed),
+    )?;
+    push(
+        field,
+        codes::OUTSIDE_ACCESS_EXTENDED,
+        four_digit_index(open),
+    )?;
+    Ok(())
+}
+
+/// Appends the items of class D, which count their octets of parameters.
+fn push_class_d<A: Allocator>(
+    field: &mut Vec<u8, A>,
+    told: &IndicatedFacilities<A>,
+) -> Result<(), AllocError>
+    requires { field.old.items ≡ octets_of_rows told.now 9 }
+    ensures value { OnOk result (field.new.items ≡ octets_of_rows told.now 12) }
+    ensures digits { OnOk result (IfSome told.now.redirected (λ r. length r.dialled ≤ 15)) }
+{
+    push(field, codes::CALL_DURATION, duration(told.duration))?;
+    push(field, codes::SEGMENT_COUNT, counts(told.segments))?;
+    push_redirection(field, &told.redirected)?;
+    Ok(())
 }
 
 /// Appends an item, if there are parameters for it.

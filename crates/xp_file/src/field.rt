@@ -1,12 +1,10 @@
 //! Reads single keys of a table of the subscription file.
 ghost use Rattle.std.specs.Prelude.{◌≡◌, ◌≤◌, Ok, Err, IfOk, IfErr, IfSome, option_map};
-ghost use Rattle.std.specs.Fn.{FnReturnsAt};
 ghost use Rattle.std.specs.List.{list_any};
 ghost use Rattle.toml.specs.Data.{get_member, as_str, as_table};
 ghost use Rattle.toml.specs.View.{view, items_view, table_view};
 ghost use Rattle.xp_file.specs.Keys.{key_text};
-ghost use Rattle.xp_file.specs.Reading.{number_in, line_name_in, group_name_in, address_in, modulus_in, router_in, sources_among, sources_in, required, optional, defaulted, flag, has_only};
-ghost use Rattle.xp_file.specs.steps.Reading.{Reads};
+ghost use Rattle.xp_file.specs.Reading.{number_in, line_name_in, group_name_in, address_in, modulus_in, router_in, sources_among, sources_in, optional, flag, has_only};
 ghost use Rattle.xp_file.specs.Name.{same};
 ghost use Rattle.xp_file.specs.Sources.{are_few};
 
@@ -27,57 +25,14 @@ pub(crate) fn value_at(table: &Table, key: Key) -> Option<&Value>
     table.get(key.name())
 }
 
-/// Reads a key that the table must have.
-pub(crate) fn required<T: Drop, F: Fn(&Value) -> Option<T>>(
-    table: &Table,
-    key: Key,
-    read: F,
-) -> Result<T, SubscriptionFault>
-    requires { F.IsAlwaysCallable read }
-    ensures { (reading : _) → Reads view (FnReturnsAt F.Fn read) reading → result ≡ required reading key (table_view table.now) }
-{
-    let Some(value) = value_at(table, key) else {
-        return Err(SubscriptionFault::Field(key));
-    };
-    read(value).ok_or(SubscriptionFault::Field(key))
-}
-
-/// Reads a key. If the table does not have it, returns the default value.
-pub(crate) fn defaulted<T: Drop, F: Fn(&Value) -> Option<T>>(
-    table: &Table,
-    key: Key,
-    absent: T,
-    read: F,
-) -> Result<T, SubscriptionFault>
-    requires { F.IsAlwaysCallable read }
-    ensures { (reading : _) → Reads view (FnReturnsAt F.Fn read) reading → result ≡ defaulted reading absent key (table_view table.now) }
-{
-    let Some(value) = value_at(table, key) else {
-        return Ok(absent);
-    };
-    read(value).ok_or(SubscriptionFault::Field(key))
-}
-
-/// Reads a key, if the table has it.
-pub(crate) fn optional<T: Drop, F: Fn(&Value) -> Option<T>>(
-    table: &Table,
-    key: Key,
-    read: F,
-) -> Result<Option<T>, SubscriptionFault>
-    requires { F.IsAlwaysCallable read }
-    ensures { (reading : _) → Reads view (FnReturnsAt F.Fn read) reading → result ≡ optional reading key (table_view table.now) }
-{
-    let Some(value) = value_at(table, key) else {
-        return Ok(None);
-    };
-    read(value).map(Some).ok_or(SubscriptionFault::Field(key))
-}
-
 /// Reads a key that is true or false. If the table does not have it, it is false.
 pub(crate) fn flag(table: &Table, key: Key) -> Result<bool, SubscriptionFault>
     ensures { result ≡ flag key (table_view table.now) }
 {
-    defaulted(table, key, false, |value| value.as_bool())
+    match value_at(table, key) {
+        Some(value) => value.as_bool().ok_or(SubscriptionFault::Field(key)),
+        None => Ok(false),
+    }
 }
 
 /// The table under a key, if there is one.

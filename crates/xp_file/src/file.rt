@@ -13,8 +13,7 @@ ghost use Rattle.xp_file.specs.Reading.{each, has_only, required, optional, defa
 use crate::entry::{Facilities, GroupEntry, Redirection, StationEntry};
 use crate::fault::SubscriptionFault;
 use crate::field::{
-    address, defaulted, flag, group_name, has_only, number, optional, optional_table, port,
-    required, short, value_at,
+    address, flag, group_name, has_only, number, optional_table, port, short, value_at,
 };
 use crate::key::Key;
 use crate::line::lines;
@@ -112,25 +111,39 @@ fn facilities(table: &Table) -> Result<Facilities, SubscriptionFault>
 fn address_of(table: &Table, key: Key) -> Result<Digits, SubscriptionFault>
     ensures { result ≡ required address_in key (table_view table.now) }
 {
-    required(table, key, address)
+    match value_at(table, key) {
+        Some(value) => address(value).ok_or(SubscriptionFault::Field(key)),
+        None => Err(SubscriptionFault::Field(key)),
+    }
 }
 
 fn preferential_of(table: &Table) -> Result<Option<u16>, SubscriptionFault>
     ensures { result ≡ optional (number_in 0 9999) keys.Preferential (table_view table.now) }
 {
-    optional(table, Key::Preferential, |value| short(value, 0, MAX_INDEX))
+    match value_at(table, Key::Preferential) {
+        Some(value) => short(value, 0, MAX_INDEX)
+            .map(Some)
+            .ok_or(SubscriptionFault::Field(Key::Preferential)),
+        None => Ok(None),
+    }
 }
 
 fn group_name_of(table: &Table) -> Result<Name, SubscriptionFault>
     ensures { result ≡ required group_name_in keys.Name (table_view table.now) }
 {
-    required(table, Key::Name, group_name)
+    match value_at(table, Key::Name) {
+        Some(value) => group_name(value).ok_or(SubscriptionFault::Field(Key::Name)),
+        None => Err(SubscriptionFault::Field(Key::Name)),
+    }
 }
 
 fn index_of(table: &Table) -> Result<u16, SubscriptionFault>
     ensures { result ≡ required (number_in 0 9999) keys.Index (table_view table.now) }
 {
-    required(table, Key::Index, |value| short(value, 0, MAX_INDEX))
+    match value_at(table, Key::Index) {
+        Some(value) => short(value, 0, MAX_INDEX).ok_or(SubscriptionFault::Field(Key::Index)),
+        None => Err(SubscriptionFault::Field(Key::Index)),
+    }
 }
 
 #[tactic(auto, unfolding(crate::specs::SubscriptionFile::group_of))]
@@ -283,36 +296,51 @@ fn limit(
 ) -> Result<u32, SubscriptionFault>
     ensures { result ≡ defaulted (number_in low high) absent key (table_view table.now) }
 {
-    defaulted(table, key, absent, |value| number(value, low, high))
+    match value_at(table, key) {
+        Some(value) => number(value, low, high).ok_or(SubscriptionFault::Field(key)),
+        None => Ok(absent),
+    }
 }
 
 fn journal(table: &Table) -> Result<u64, SubscriptionFault>
     ensures { result ≡ defaulted (number_in 4 10000000) no_journal_limit keys.Journal (table_view table.now) }
 {
-    defaulted(
-        table,
-        Key::Journal,
-        NO_JOURNAL_LIMIT,
-        |value| number(value, MIN_JOURNAL, MAX_JOURNAL).map(u64::from),
-    )
+    match value_at(table, Key::Journal) {
+        Some(value) => match number(value, MIN_JOURNAL, MAX_JOURNAL) {
+            Some(limit) => Ok(limit.into()),
+            None => Err(SubscriptionFault::Field(Key::Journal)),
+        },
+        None => Ok(NO_JOURNAL_LIMIT),
+    }
 }
 
 fn xot_port(table: &Table) -> Result<u16, SubscriptionFault>
     ensures { result ≡ defaulted (number_in 1 65535) registered_port keys.XotPort (table_view table.now) }
 {
-    defaulted(table, Key::XotPort, REGISTERED_PORT, port)
+    match value_at(table, Key::XotPort) {
+        Some(value) => port(value).ok_or(SubscriptionFault::Field(Key::XotPort)),
+        None => Ok(REGISTERED_PORT),
+    }
 }
 
 fn exchange_name(table: &Table) -> Result<Option<Name>, SubscriptionFault>
     ensures { result ≡ optional group_name_in keys.Name (table_view table.now) }
 {
-    optional(table, Key::Name, group_name)
+    match value_at(table, Key::Name) {
+        Some(value) => group_name(value)
+            .map(Some)
+            .ok_or(SubscriptionFault::Field(Key::Name)),
+        None => Ok(None),
+    }
 }
 
 fn reserved(table: &Table, key: Key) -> Result<u16, SubscriptionFault>
     ensures { result ≡ defaulted (number_in 0 4096) 0 key (table_view table.now) }
 {
-    defaulted(table, key, 0, |value| short(value, 0, MAX_SPARE_LINES))
+    match value_at(table, key) {
+        Some(value) => short(value, 0, MAX_SPARE_LINES).ok_or(SubscriptionFault::Field(key)),
+        None => Ok(0),
+    }
 }
 
 fn host(alloc: Global, table: &Table) -> Result<String, SubscriptionFault>

@@ -7,6 +7,7 @@ mod fault;
 mod field;
 mod file;
 mod key;
+mod letters;
 mod line;
 mod listed_keys;
 mod name;

@@ -9,9 +9,7 @@ ghost use Rattle.xp_file.specs.Reading.{required, optional, defaulted, number_in
 
 use crate::entry::{Access, LineEntry};
 use crate::fault::SubscriptionFault;
-use crate::field::{
-    address, defaulted, line_name, modulus, optional, port, required, router, sources, value_at,
-};
+use crate::field::{address, line_name, modulus, port, router, sources, value_at};
 use crate::key::Key;
 use crate::name::Name;
 use crate::router::RouterAddress;
@@ -24,7 +22,10 @@ use xp_packets::{Digits, Modulus};
 fn line_name_of(table: &Table) -> Result<Name, SubscriptionFault>
     ensures { result ≡ required line_name_in keys.Name (table_view table.now) }
 {
-    required(table, Key::Name, line_name)
+    match value_at(table, Key::Name) {
+        Some(value) => line_name(value).ok_or(SubscriptionFault::Field(Key::Name)),
+        None => Err(SubscriptionFault::Field(Key::Name)),
+    }
 }
 
 /// The port of a line, which may be missing only where the line has the key `router`.
@@ -40,19 +41,30 @@ fn port_of(table: &Table) -> Result<Option<u16>, SubscriptionFault>
 fn required_port(table: &Table) -> Result<u16, SubscriptionFault>
     ensures { result ≡ required (number_in 1 65535) keys.Port (table_view table.now) }
 {
-    required(table, Key::Port, port)
+    match value_at(table, Key::Port) {
+        Some(value) => port(value).ok_or(SubscriptionFault::Field(Key::Port)),
+        None => Err(SubscriptionFault::Field(Key::Port)),
+    }
 }
 
 fn optional_port(table: &Table) -> Result<Option<u16>, SubscriptionFault>
     ensures { result ≡ optional (number_in 1 65535) keys.Port (table_view table.now) }
 {
-    optional(table, Key::Port, port)
+    match value_at(table, Key::Port) {
+        Some(value) => port(value)
+            .map(Some)
+            .ok_or(SubscriptionFault::Field(Key::Port)),
+        None => Ok(None),
+    }
 }
 
 fn router_of(table: &Table) -> Result<RouterAddress, SubscriptionFault>
     ensures { result ≡ required router_in keys.Router (table_view table.now) }
 {
-    required(table, Key::Router, router)
+    match value_at(table, Key::Router) {
+        Some(value) => router(value).ok_or(SubscriptionFault::Field(Key::Router)),
+        None => Err(SubscriptionFault::Field(Key::Router)),
+    }
 }
 
 /// The port or the router of a line, which has one of them alone.
@@ -71,19 +83,30 @@ fn access_of(table: &Table) -> Result<Access, SubscriptionFault>
 fn own_address_of(table: &Table) -> Result<Option<Digits>, SubscriptionFault>
     ensures { result ≡ optional address_in keys.Address (table_view table.now) }
 {
-    optional(table, Key::Address, address)
+    match value_at(table, Key::Address) {
+        Some(value) => address(value)
+            .map(Some)
+            .ok_or(SubscriptionFault::Field(Key::Address)),
+        None => Ok(None),
+    }
 }
 
 fn modulus_of(table: &Table) -> Result<Modulus, SubscriptionFault>
     ensures { result ≡ defaulted modulus_in Eight keys.Modulus (table_view table.now) }
 {
-    defaulted(table, Key::Modulus, Modulus::Eight, modulus)
+    match value_at(table, Key::Modulus) {
+        Some(value) => modulus(value).ok_or(SubscriptionFault::Field(Key::Modulus)),
+        None => Ok(Modulus::Eight),
+    }
 }
 
 fn sources_of(table: &Table) -> Result<Sources, SubscriptionFault>
     ensures { result ≡ defaulted sources_in [] keys.From (table_view table.now) }
 {
-    defaulted(table, Key::From, Sources::new(), sources)
+    match value_at(table, Key::From) {
+        Some(value) => sources(value).ok_or(SubscriptionFault::Field(Key::From)),
+        None => Ok(Sources::new()),
+    }
 }
 
 #[tactic(auto, unfolding(crate::specs::SubscriptionFile::line_of))]

@@ -1,7 +1,8 @@
 ghost use Rattle.std.specs.Prelude.{◌≡◌, [], if◌then◌else◌};
-ghost use Rattle.std.specs.List.{list_all};
-ghost use Rattle.xp_file.specs.Name.{has_length, is_line_letter, is_line_name, is_group_letter, is_group_name};
+ghost use Rattle.xp_file.specs.Name.{is_line_name, is_group_name};
+ghost use Rattle.xp_file.specs.steps.Letters.{is_spelled};
 
+use crate::letters::Letters;
 use arrayvec::ArrayString;
 use std::fmt;
 use std::hash::{Hash, Hasher};
@@ -30,18 +31,20 @@ impl Name {
     pub fn of_line(text: &str) -> Option<Name>
         ensures { result ≡ (if is_line_name text.now then Some text.now else None) }
     {
-        if !is_line_name(text) {
-            return None;
-        }
-        let text = ArrayString::from(text).ok()?;
-        Some(Name { text })
+        Name::of(text, Letters::LineName)
     }
 
     /// A group's name. Returns `None` if the text cannot be one.
     pub fn of_group(text: &str) -> Option<Name>
         ensures { result ≡ (if is_group_name text.now then Some text.now else None) }
     {
-        if !is_group_name(text) {
+        Name::of(text, Letters::GroupName)
+    }
+
+    fn of(text: &str, letters: Letters) -> Option<Name>
+        ensures { result ≡ (if is_spelled letters 1 16 text.now then Some text.now else None) }
+    {
+        if !letters.spell(text, 1, Name::MOST) {
             return None;
         }
         let text = ArrayString::from(text).ok()?;
@@ -70,48 +73,6 @@ impl Name {
     {
         self.text.as_str()
     }
-}
-
-fn has_length(text: &str) -> bool
-    ensures { result ≡ has_length text.now }
-{
-    matches!(text.len(), 1..=Name::MOST)
-}
-
-fn is_line_name(text: &str) -> bool
-    ensures { result ≡ is_line_name text.now }
-{
-    has_length(text) && are_line_letters(text.as_bytes())
-}
-
-fn are_line_letters(octets: &[u8]) -> bool
-    ensures { result ≡ list_all is_line_letter octets.now }
-{
-    octets.iter().all(|octet| is_line_letter(*octet))
-}
-
-fn is_line_letter(octet: u8) -> bool
-    ensures { result ≡ is_line_letter octet }
-{
-    matches!(octet, b'a'..=b'z' | b'0'..=b'9')
-}
-
-fn is_group_name(text: &str) -> bool
-    ensures { result ≡ is_group_name text.now }
-{
-    has_length(text) && are_group_letters(text.as_bytes())
-}
-
-fn are_group_letters(octets: &[u8]) -> bool
-    ensures { result ≡ list_all is_group_letter octets.now }
-{
-    octets.iter().all(|octet| is_group_letter(*octet))
-}
-
-fn is_group_letter(octet: u8) -> bool
-    ensures { result ≡ is_group_letter octet }
-{
-    matches!(octet, b'A'..=b'Z' | b'a'..=b'z' | b'0'..=b'9')
 }
 
 impl PartialEq for Name {

@@ -1,13 +1,11 @@
 //! The XOT router of a line, and how the subscription file spells it.
-ghost use Rattle.std.specs.Char.{is_ascii_digit};
-ghost use Rattle.std.specs.List.{list_all};
 ghost use Rattle.std.specs.Prelude.{◌≡◌, option_map, if◌then◌else◌};
 ghost use Rattle.xp_file.specs.Routers.{RouterData, has_port_digits, port_spelled, behind, parted, port_behind, router_at, in_brackets, without_brackets, router_spelled, colon, opening_bracket, closing_bracket};
 ghost use Rattle.xp_file.specs.Sources.{is_ip_address};
 
+use crate::letters::Letters;
 use crate::sources::{MOST_CHARACTERS, is_ip_address};
 use arrayvec::ArrayString;
-use std::fmt;
 use std::marker::Model;
 
 /// The TCP port that is registered for XOT (RFC 1613). It stands for one that the file does not write.
@@ -124,12 +122,6 @@ impl PartialEq for AddressText {
     }
 }
 
-impl fmt::Debug for AddressText {
-    fn fmt<W: fmt::Write>(&self, f: &mut fmt::Formatter<W>) -> fmt::Result {
-        fmt::Debug::fmt(&self.text, f)
-    }
-}
-
 /// What stands behind an opening bracket: `ADDRESS]` or `ADDRESS]:PORT`.
 fn in_brackets(text: &str) -> Option<RouterAddress>
     ensures { result ≡ in_brackets text.now }
@@ -179,13 +171,7 @@ fn port_spelled(text: &str) -> Option<u16>
 fn has_port_digits(text: &str) -> bool
     ensures { result ≡ has_port_digits text.now }
 {
-    matches!(text.len(), 1..=MOST_PORT_DIGITS) && are_digits(text.as_bytes())
-}
-
-fn are_digits(octets: &[u8]) -> bool
-    ensures { result ≡ list_all is_ascii_digit octets.now }
-{
-    octets.iter().all(|octet| octet.is_ascii_digit())
+    Letters::Digits.spell(text, 1, MOST_PORT_DIGITS)
 }
 
 /// The texts before and behind the first colon.

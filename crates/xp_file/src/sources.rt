@@ -1,9 +1,8 @@
 ghost use Rattle.std.specs.Prelude.{◌≡◌, ◌<◌, ◌≤◌, ◌==◌, [], ◌∷◌, ◌++◌, length, slice_get, option_copied, IfSome, IfNone, IsTrue, false};
-ghost use Rattle.std.specs.List.{list_all};
-ghost use Rattle.xp_file.specs.Sources.{is_ip_address, is_ip_letter, is_source, is_source_letter};
+ghost use Rattle.xp_file.specs.Sources.{is_ip_address, is_source};
 
+use crate::letters::Letters;
 use arrayvec::{ArrayString, ArrayVec};
-use std::fmt;
 use std::marker::Model;
 
 /// The most characters of an address or a network.
@@ -88,38 +87,14 @@ impl Sources {
 pub(crate) fn is_ip_address(text: &str) -> bool
     ensures { result ≡ is_ip_address text.now }
 {
-    matches!(text.len(), 2..=MOST_CHARACTERS) && are_ip_letters(text.as_bytes())
-}
-
-fn are_ip_letters(octets: &[u8]) -> bool
-    ensures { result ≡ list_all is_ip_letter octets.now }
-{
-    octets.iter().all(|octet| is_ip_letter(*octet))
-}
-
-fn is_ip_letter(octet: u8) -> bool
-    ensures { result ≡ is_ip_letter octet }
-{
-    matches!(octet, b'0'..=b':' | b'a'..=b'f' | b'A'..=b'F' | b'.')
+    Letters::IpAddress.spell(text, 2, MOST_CHARACTERS)
 }
 
 /// Whether a text has the form of an address, or of a network such as `10.0.0.0/8`.
 pub(crate) fn is_source(text: &str) -> bool
     ensures { result ≡ is_source text.now }
 {
-    matches!(text.len(), 2..=MOST_CHARACTERS) && are_source_letters(text.as_bytes())
-}
-
-fn are_source_letters(octets: &[u8]) -> bool
-    ensures { result ≡ list_all is_source_letter octets.now }
-{
-    octets.iter().all(|octet| is_source_letter(*octet))
-}
-
-fn is_source_letter(octet: u8) -> bool
-    ensures { result ≡ is_source_letter octet }
-{
-    is_ip_letter(octet) || octet == b'/'
+    Letters::Source.spell(text, 2, MOST_CHARACTERS)
 }
 
 impl PartialEq for Sources {
@@ -133,11 +108,5 @@ impl PartialEq for Sources {
 
     fn eq(&self, other: &Sources) -> bool {
         self.texts == other.texts
-    }
-}
-
-impl fmt::Debug for Sources {
-    fn fmt<W: fmt::Write>(&self, f: &mut fmt::Formatter<W>) -> fmt::Result {
-        fmt::Debug::fmt(&self.texts, f)
     }
 }

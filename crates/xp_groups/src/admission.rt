@@ -9,7 +9,7 @@ use xp_facilities::Selection;
 use xp_subs::{GroupNo, Membership, Station};
 
 /// The admission of a call to a station, according to the station's closed user groups (X.301).
-#[derive(Clone, Copy, PartialEq, Eq)]
+#[derive(Clone, Copy)]
 pub struct Admission {
     /// The group that the incoming call indicates, by the called station's own index.
     pub indicated: Selection,

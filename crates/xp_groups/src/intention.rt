@@ -1,7 +1,7 @@
 use xp_subs::GroupNo;
 
 /// How a call is made, according to the caller's closed user groups (X.301).
-#[derive(Clone, Copy, PartialEq, Eq)]
+#[derive(Clone, Copy)]
 pub struct Intent {
     /// The group within which the call is made.
     pub group: Option<GroupNo>,

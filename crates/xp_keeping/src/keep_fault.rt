@@ -6,7 +6,7 @@ ghost use Rattle.xp_keeping.specs.declared.keep_fault.KeepFault.TheVariants.{Mem
 use std::alloc::AllocError;
 
 /// Why not all charging records were kept.
-#[derive(Clone, Copy, Debug, PartialEq)]
+#[derive(Clone, Copy)]
 pub enum KeepFault {
     /// An allocation failed.
     Memory,

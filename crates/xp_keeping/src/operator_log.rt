@@ -54,9 +54,15 @@ impl<L: Log> OperatorLog<L> {
         }
         let moment = timestamp(moment);
         if self.left_out > 0 {
-            log!(self.log; target: "xp", Level::Warn, "{moment} {} lines of this log were left out", self.left_out);
+            let left_out = format_args!("{} lines of this log were left out", self.left_out);
+            self.write(Level::Warn, moment, &left_out);
             self.left_out = 0;
         }
+        self.write(level, moment, &fact);
+    }
+
+    /// Writes a line that tells this.
+    fn write<D: Display>(&self, level: Level, moment: Timestamp, fact: &D) {
         log!(self.log; target: "xp", level, "{moment} {fact}");
     }
 }

@@ -37,7 +37,6 @@ const MOST_LOOKS: usize = 1_000;
 
 /// Hands charging records to a keeper on a thread of its own, so that nothing waits for it: neither for a file that takes nothing,
 /// nor for an output that nobody reads. A copy of each record stays here until the keeper has kept it.
-#[derive(Drop)]
 pub struct QueuedKeeper<K: CallKeeper, R: Threads + Wait> {
     rt: R,
     /// By what the lines of the calls are named.
@@ -55,6 +54,23 @@ pub struct QueuedKeeper<K: CallKeeper, R: Threads + Wait> {
     /// By what the calls end whose records are received.
     ended_by: EndedBy,
     first: Snapshot<K>,
+}
+
+impl<K: CallKeeper, R: Drop + Threads + Wait> Drop for QueuedKeeper<K, R> {
+    fn drop(self) {
+        let QueuedKeeper {
+            rt: _,
+            telling: _,
+            queue: _,
+            signal: _,
+            thread: _,
+            last: _,
+            fault: _,
+            is_short: _,
+            ended_by: _,
+            first: _,
+        } = self;
+    }
 }
 
 impl<K: CallKeeper, R: Threads + Wait> Model for QueuedKeeper<K, R> {
@@ -86,9 +102,9 @@ impl<K: CallKeeper + Send + 'static, R: Threads + Wait + Copy + Send + 'static> 
         requires received { K.given keeper ≡ [] }
         ensures { IfOk result (λ queued. queued ≡ first_queued subs keeper fault) }
     {
-        let (queue, records) = RecordQueue::new(alloc)?;
         let signal = Arc::new(alloc, KeepingSignal::new())?;
         let theirs = Arc::try_clone(&signal)?;
+        let (queue, records) = RecordQueue::new(alloc)?;
         let first = Snapshot::of(&keeper);
         let promise = GivesBack {
             first: Snapshot::of(&keeper),

@@ -9,7 +9,7 @@ use std::alloc::Allocator;
 use xp_links::{Link, Pushed};
 
 /// Whether a link took all octets.
-#[derive(Clone, Copy, PartialEq)]
+#[derive(Clone, Copy)]
 pub enum Flow {
     /// It took all.
     Free,

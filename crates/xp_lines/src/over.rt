@@ -4,7 +4,7 @@ ghost use Rattle.std.specs.Prelude.{◌≡◌};
 ghost use Rattle.xp_lines.specs.steps.Reads.{over_of};
 
 /// Why a turn of a line is over before its end.
-#[derive(Clone, Copy, PartialEq)]
+#[derive(Clone, Copy)]
 pub enum Over {
     /// The link has ended, is broken or sent a bad frame header, or the exchange gave the line up and its connection is to be closed.
     Link,

@@ -119,8 +119,7 @@ impl<N: Name, P: Port, C: Clock> ServedLine<N, P, C> {
             LineState::Open(session) => {
                 next_state(rt, shared, &mut self.seat, &mut self.port, session)
             }
-            LineState::Stopped(rest) => LineState::Stopped(rest),
-            LineState::Ended(why) => LineState::Ended(why),
+            other => other,
         };
     }
 
@@ -130,8 +129,7 @@ impl<N: Name, P: Port, C: Clock> ServedLine<N, P, C> {
     {
         self.state = match mem::replace(&mut self.state, LineState::Ended(EndReason::Halted)) {
             LineState::Open(session) => stop(rt, shared, &mut self.seat, session),
-            LineState::Stopped(rest) => LineState::Stopped(rest),
-            LineState::Ended(why) => LineState::Ended(why),
+            other => other,
         };
     }
 
@@ -141,8 +139,7 @@ impl<N: Name, P: Port, C: Clock> ServedLine<N, P, C> {
     {
         self.state = match mem::replace(&mut self.state, LineState::Ended(EndReason::Halted)) {
             LineState::Open(session) => end_state(rt, shared, &mut self.seat, why, session),
-            LineState::Stopped(rest) => LineState::Stopped(rest),
-            LineState::Ended(why) => LineState::Ended(why),
+            other => other,
         };
     }
 
@@ -243,8 +240,7 @@ fn write_state<N: Name, L: Link, C: Clock, R: Wait>(
             Some(rest) => LineState::Stopped(rest),
             None => LineState::Ended(EndReason::Stopped),
         },
-        LineState::Open(session) => LineState::Open(session),
-        LineState::Ended(why) => LineState::Ended(why),
+        other => other,
     }
 }
 

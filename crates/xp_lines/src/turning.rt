@@ -17,7 +17,7 @@ use xp_links::{Clock, Link};
 use xp_seats::Name;
 
 /// How a turn leaves its line.
-#[derive(Clone, Copy, PartialEq)]
+#[derive(Clone, Copy)]
 pub enum TurnOutcome {
     /// With its link.
     Linked,
@@ -32,7 +32,7 @@ pub enum TurnOutcome {
 }
 
 /// The result of a turn.
-#[derive(Clone, Copy, PartialEq)]
+#[derive(Clone, Copy)]
 pub struct Turned {
     /// How the turn left the line.
     pub after: TurnOutcome,

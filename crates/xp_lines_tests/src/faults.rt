@@ -2,7 +2,6 @@
 
 use crate::serving::serve;
 use std::alloc::Global;
-use std::process::Abort;
 use std::sync::Wait;
 use std::test::Fail;
 use std::thread::Threads;
@@ -53,37 +52,34 @@ fn unfair_to(scene: &str) -> &'static str {
     }
 }
 
-/// One link fails at the first pull or push, then in a new run at the second, until a run meets no fault. What it took before is
-/// what it is to be given.
-fn fails(
-    rt: &(impl Threads + Wait + Sync + Abort),
+/// Serves the lines of a scene whose link fails at the pull or push of this number. What it took before is what it is to be given. Whether
+/// all is as it is to be.
+fn is_as_wanted(
+    rt: &(impl Threads + Wait + Sync),
     alloc: Global,
     scene: &str,
-) -> Result<(), Fail> {
-    let met = number(scene, "met=", 0);
-    for at in 0..=met {
-        let text = serve(rt, alloc, scene, true, at)?;
-        let (told, records) = text.split_once('\n').unwrap_or(("", ""));
-        assert_eq!(rt; records, wanted_record(scene, at), "{at}: {scene}");
-        assert_eq!(rt; told.contains(" failed"), at < met, "{at}: {scene}");
-        assert!(rt; !told.contains(unfair_to(scene)), "{at}: {scene}");
-        assert!(rt; at < met || told == "TTTTTT 8", "{scene}: {told}");
-    }
-    Ok(())
+    at: u64,
+) -> Result<bool, Fail> {
+    let fails = at < number(scene, "met=", 0);
+    let text = serve(rt, alloc, scene, true, at)?;
+    let (told, records) = text.split_once('\n').unwrap_or(("", ""));
+    Ok(
+        records == wanted_record(scene, at)
+            && told.contains(" failed") == fails
+            && !told.contains(unfair_to(scene))
+            && (fails || told == "TTTTTT 8"),
+    )
 }
 
+/// One link fails at the first pull or push, then in a new run at the second, until a run meets no fault.
 #[test]
-fn links_fail_at_pulls(rt: HostRuntime) -> Result<(), Fail> {
-    for scene in PULLS.split("\n\n") {
-        fails(&rt, rt.alloc(), scene)?;
-    }
-    Ok(())
-}
-
-#[test]
-fn links_fail_at_pushes(rt: HostRuntime) -> Result<(), Fail> {
-    for scene in PUSHES.split("\n\n") {
-        fails(&rt, rt.alloc(), scene)?;
+fn links_that_fail(rt: HostRuntime) -> Result<(), Fail> {
+    for scenes in [PULLS, PUSHES] {
+        for scene in scenes.split("\n\n") {
+            for at in 0..=number(scene, "met=", 0).min(1_000) {
+                assert!(rt; is_as_wanted(&rt, rt.alloc(), scene, at)?, "{at}: {scene}");
+            }
+        }
     }
     Ok(())
 }

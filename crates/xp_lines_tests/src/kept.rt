@@ -13,7 +13,6 @@ use xp_view::ExchangeView;
 
 /// A sink that keeps the lines of the records that it is given, and counts the records on a board. It stops serving at as many
 /// records as the setting `kept` says, and with `stops` once the links were given what they are given before a stop.
-#[derive(Drop)]
 pub struct Kept {
     /// The lines of the records.
     pub text: Vec<u8>,
@@ -26,6 +25,20 @@ pub struct Kept {
     pub seen_lines: usize,
     pub seen_entries: u64,
     pub given: Past<Record>,
+}
+
+impl Drop for Kept {
+    fn drop(self) {
+        let Kept {
+            text: _,
+            subs: _,
+            shown: _,
+            board: _,
+            seen_lines: _,
+            seen_entries: _,
+            given: _,
+        } = self;
+    }
 }
 
 impl RecordSink for Kept {

@@ -6,7 +6,6 @@
 
 use crate::serving::serve;
 use std::alloc::Global;
-use std::process::Abort;
 use std::sync::Wait;
 use std::test::Fail;
 use std::thread::Threads;
@@ -199,64 +198,37 @@ b1 wakes=2 all=26 pushed <incoming | <out-of-order
 = SSSSSS 5 a1 0 b1 26 b1 pushed 10001
 record 1 a1 b1 2080020 caller 0 0 09 0 0";
 
-/// Serves the lines of a scene, in each way that it names.
-fn as_told(
-    rt: &(impl Threads + Wait + Sync + Abort),
+/// Serves the lines of a scene, in each way that it names. What comes of a way in which it is not as told, or nothing.
+fn told_otherwise(
+    rt: &(impl Threads + Wait + Sync),
     alloc: Global,
     scene: &str,
-) -> Result<(), Fail> {
+) -> Result<String, Fail> {
     let (setup, told) = scene.split_once("= ").unwrap_or(("", scene));
     let words = words_of(setup, "serve");
-    let mut served = 0;
+    let at = number(words, "at=", u64::MAX);
+    let mut otherwise = String::from_str(alloc, "it is not served")?;
     for together in [false, true] {
         let way = if together { "together" } else { "threads" };
-        if setting(words, way).is_some() {
-            let text = serve(rt, alloc, setup, together, number(words, "at=", u64::MAX))?;
-            assert_eq!(rt; text.as_str().trim_end(), told.trim_end(), "{setup}");
-            served = 1;
+        if setting(words, way).is_none() {
+            continue;
+        }
+        otherwise = serve(rt, alloc, setup, together, at)?;
+        if otherwise.as_str().trim_end() != told.trim_end() {
+            break;
+        }
+        otherwise.clear();
+    }
+    Ok(otherwise)
+}
+
+#[test]
+fn scenes_as_told(rt: HostRuntime) -> Result<(), Fail> {
+    for scenes in [AT_ONCE, SERVED, TURNS, RECORDED, STOPPED, BLOCKED] {
+        for scene in scenes.split("\n\n") {
+            let otherwise = told_otherwise(&rt, rt.alloc(), scene)?;
+            assert!(rt; otherwise.is_empty(), "{scene}: {otherwise}");
         }
     }
-    assert_eq!(rt; served, 1, "{scene}");
     Ok(())
-}
-
-fn all_as_told(
-    rt: &(impl Threads + Wait + Sync + Abort),
-    alloc: Global,
-    scenes: &str,
-) -> Result<(), Fail> {
-    for scene in scenes.split("\n\n") {
-        as_told(rt, alloc, scene)?;
-    }
-    Ok(())
-}
-
-#[test]
-fn lines_at_once(rt: HostRuntime) -> Result<(), Fail> {
-    all_as_told(&rt, rt.alloc(), AT_ONCE)
-}
-
-#[test]
-fn lines_served(rt: HostRuntime) -> Result<(), Fail> {
-    all_as_told(&rt, rt.alloc(), SERVED)
-}
-
-#[test]
-fn turns(rt: HostRuntime) -> Result<(), Fail> {
-    all_as_told(&rt, rt.alloc(), TURNS)
-}
-
-#[test]
-fn records_while_lines_are_served(rt: HostRuntime) -> Result<(), Fail> {
-    all_as_told(&rt, rt.alloc(), RECORDED)
-}
-
-#[test]
-fn lines_stop(rt: HostRuntime) -> Result<(), Fail> {
-    all_as_told(&rt, rt.alloc(), STOPPED)
-}
-
-#[test]
-fn lines_stop_while_a_link_takes_nothing(rt: HostRuntime) -> Result<(), Fail> {
-    all_as_told(&rt, rt.alloc(), BLOCKED)
 }

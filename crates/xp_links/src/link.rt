@@ -7,7 +7,7 @@ ghost use Rattle.xp_links.specs.Counts.{pulled_count, pushed_count};
 use xp_subs::LineNo;
 
 /// The result of a pull from a link.
-#[derive(Clone, Copy, PartialEq)]
+#[derive(Clone, Copy)]
 pub enum Pulled {
     /// This many octets came. They stand at the front of the buffer.
     Octets(usize),
@@ -98,7 +98,7 @@ pub trait Clock: Drop {
 }
 
 /// For how long a thread may wait for its lines.
-#[derive(Clone, Copy, PartialEq)]
+#[derive(Clone, Copy)]
 pub enum Patience {
     /// Until a line is due.
     Long,

@@ -15,7 +15,7 @@ use xp_cdr::{DetailFile, RecordFile};
 const PIECE: usize = 65_536;
 
 /// What the run before left behind.
-#[derive(Clone, Copy, Default, PartialEq, Eq)]
+#[derive(Clone, Copy, Default)]
 pub struct LeftBehind {
     /// How many of its calls got a partial record.
     pub calls: usize,
@@ -41,14 +41,31 @@ pub fn begin_live<R: Files<File = File> + Copy + Drop>(
     ensures failures { ⟦<DetailFile<R> as RecordFile>⟧.failures records.new ≡ ⟦<DetailFile<R> as RecordFile>⟧.failures records.old }
 {
     let (file, text) = LiveFile::open(alloc, rt, path)?;
-    let mut left = left_in(alloc, text.as_slice())?;
+    let left = complete_left(alloc, &rt, text.as_slice(), earlier, records)?;
+    Ok((file, left))
+}
+
+/// Writes the lines of this text of a live file whose calls have no record at the end of the file of call detail records. Records are
+/// looked for in the earlier file of this path too, if there is one.
+fn complete_left<R: Files<File = File> + Drop>(
+    alloc: Global,
+    rt: &R,
+    text: &[u8],
+    earlier: Option<&str>,
+    records: &mut DetailFile<R>,
+) -> Result<LeftBehind, LiveFault>
+    ensures taken { ⟦<DetailFile<R> as RecordFile>⟧.taken records.new ≡ ⟦<DetailFile<R> as RecordFile>⟧.taken records.old }
+    ensures synced { ⟦<DetailFile<R> as RecordFile>⟧.synced records.new ≡ ⟦<DetailFile<R> as RecordFile>⟧.synced records.old }
+    ensures failures { ⟦<DetailFile<R> as RecordFile>⟧.failures records.new ≡ ⟦<DetailFile<R> as RecordFile>⟧.failures records.old }
+{
+    let mut left = left_in(alloc, text)?;
     let started = left.started();
     if left.count() > 0 {
-        see_earlier(&rt, alloc, &mut left, earlier).map_err(LiveFault::Records)?;
+        see_earlier(rt, alloc, &mut left, earlier).map_err(LiveFault::Records)?;
         see_file(alloc, &mut left, records.reader()).map_err(LiveFault::Records)?;
     }
     let calls = complete(alloc, &left, records)?;
-    Ok((file, LeftBehind { calls, started }))
+    Ok(LeftBehind { calls, started })
 }
 
 /// The calls of a live file of this text. One that is empty has none.

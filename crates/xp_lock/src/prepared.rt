@@ -51,10 +51,10 @@ pub fn prepare<A: Allocator + Copy>(alloc: A, subs: Subs) -> Result<PreparedExch
     ensures { IfOk result (λ prepared. prepared.subs ≡ subs) }
 {
     let lines = subs.counts().lines;
+    let core = Core::new(alloc, subs)?;
+    let taken = vec![in alloc; 0; lines]?;
     let seats = SeatsForProofs::new(alloc)?;
     let (outboxes, ends) = new_outboxes(alloc, lines)?;
-    let taken = vec![in alloc; 0; lines]?;
-    let core = Core::new(alloc, subs)?;
     Ok(PreparedExchange {
         core,
         seats,

@@ -3,7 +3,6 @@
 ghost use Rattle.std.specs.Prelude.{◌≡◌, IfOk};
 
 use std::alloc::{AllocError, Allocator, Global};
-use std::process::Abort;
 use std::sync::Wait;
 use std::test::Fail;
 use std::thread;
@@ -69,24 +68,24 @@ fn two_threads_hand_items_over_in_order(rt: HostRuntime) -> Result<(), Fail> {
     Ok(())
 }
 
-/// Fills the places in order, and frees them.
-fn fill_and_free<A: Allocator + Copy>(
-    rt: &(impl Wait + Abort),
+/// Fills the places in order, and frees them. Whether each is as it is to be.
+fn fills_and_frees<A: Allocator + Copy>(
+    rt: &impl Wait,
     put: &mut PutEnd<usize, A>,
     taken: &mut TakeEnd<usize, A>,
-) {
-    assert_eq!(rt; put.room(rt), PLACES);
+) -> bool {
+    let mut as_told = put.room(rt) == PLACES;
     for place in 0..PLACES {
         if put.free() > 0 {
             put.put(rt, place);
         }
     }
-    assert_eq!(rt; (put.free(), put.room(rt)), (0, 0));
-    assert_eq!(rt; (taken.take(rt), put.free(), put.room(rt)), (Some(0), 0, 1));
+    as_told = as_told && put.free() == 0 && put.room(rt) == 0;
+    as_told = as_told && taken.take(rt) == Some(0) && put.free() == 0 && put.room(rt) == 1;
     for place in 1..PLACES {
-        assert_eq!(rt; taken.take(rt), Some(place));
+        as_told = taken.take(rt) == Some(place) && as_told;
     }
-    assert_eq!(rt; (taken.take(rt), put.room(rt)), (None, PLACES));
+    as_told && taken.take(rt).is_none() && put.room(rt) == PLACES
 }
 
 /// The ends of an outbox. Where memory is refused it is asked for once more.
@@ -101,14 +100,21 @@ fn ends_of<A: Allocator + Copy>(
     }
 }
 
+/// Whether an outbox whose request for memory of this number is refused is as it is to be, and whether none was refused.
+fn trial(rt: &impl Wait, alloc: Global, number: u64) -> Result<(bool, bool), AllocError> {
+    let scarce = Refusing::new(alloc, number);
+    let (mut put, mut taken) = ends_of(&scarce)?;
+    let as_told = fills_and_frees(rt, &mut put, &mut taken);
+    Ok((as_told, scarce.is_pending()))
+}
+
 #[test]
 fn places_are_filled_and_freed(rt: HostRuntime) -> Result<(), Fail> {
     let mut refused = 0u64;
     for number in 1..20u64 {
-        let scarce = Refusing::new(rt.alloc(), number);
-        let (mut put, mut taken) = ends_of(&scarce)?;
-        fill_and_free(&rt, &mut put, &mut taken);
-        if scarce.is_pending() {
+        let (as_told, is_whole) = trial(&rt, rt.alloc(), number)?;
+        assert!(rt; as_told, "{number}");
+        if is_whole {
             break;
         }
         refused = number;

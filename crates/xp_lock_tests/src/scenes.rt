@@ -6,7 +6,6 @@ use crate::log::Log;
 use crate::starting::{Scripts, scene};
 use std::alloc::Global;
 use std::marker::Brand;
-use std::process::Abort;
 use std::sync::Wait;
 use std::test::Fail;
 use xp_lock::prepare;
@@ -58,51 +57,78 @@ const REFUSED: &str = "a1 up b1 up a1 call b1 accepted
 a1 drops
 records";
 
-/// Plays a scene, and compares what is told of it.
-fn as_told(rt: &(impl Wait + Abort), alloc: Global, text: &str) -> Result<(), Fail> {
-    let (scripts, told) = text.split_once("= ").unwrap_or(("", text));
-    let prepared = prepare(alloc, Subs::read(alloc, THREE_STATIONS)?)?;
+/// What is told of it.
+const REFUSED_TOLD: &str = "1 85 41 0 1 received 1 missing 4 ";
+
+/// Plays a scene with this memory for the exchange. Nothing is told where it is wanting at the start.
+fn played(
+    rt: &impl Wait,
+    alloc: Global,
+    scarce: &Refusing<Global>,
+    scripts: &str,
+) -> Result<Log, Fail> {
+    let subs = Subs::read(alloc, THREE_STATIONS)?;
+    let Ok(prepared) = prepare(scarce, subs) else {
+        return Ok(Log::new(alloc));
+    };
     let scripts = Scripts { text: scripts };
-    let log = scene::<Brand, Global>(rt, alloc, prepared, scripts, Log::new(alloc))?;
-    assert_eq!(rt; log.told.as_str().trim_end(), told);
-    Ok(())
+    let log = Log::new(alloc);
+    Ok(scene::<Brand, _>(rt, scarce, prepared, scripts, log)?)
+}
+
+/// Whether a scene is as told.
+fn is_as_told(rt: &impl Wait, alloc: Global, text: &str) -> Result<bool, Fail> {
+    let (scripts, told) = text.split_once("= ").unwrap_or(("", text));
+    let ample = Refusing::new(alloc, 0);
+    let log = played(rt, alloc, &ample, scripts)?;
+    Ok(log.told.as_str().trim_end() == told)
 }
 
 #[test]
 fn scenes_as_told(rt: HostRuntime) -> Result<(), Fail> {
     for text in SCENES.split("\n\n") {
-        as_told(&rt, rt.alloc(), text)?;
+        assert!(rt; is_as_told(&rt, rt.alloc(), text)?, "{text}");
     }
     Ok(())
+}
+
+/// What comes of a scene of which a request for memory is refused.
+#[derive(Clone, Copy)]
+struct Refused {
+    /// Whether it was told as with enough memory, or nothing since memory was wanting at the start.
+    as_told: bool,
+    /// How often an offer, and a taking of records, was made again.
+    offers: u64,
+    takes: u64,
+    /// Whether no request was refused.
+    is_whole: bool,
+}
+
+/// Refuses the request for memory of this number.
+fn with_refusal(rt: &impl Wait, alloc: Global, number: u64) -> Result<Refused, Fail> {
+    let scarce = Refusing::new(alloc, number);
+    let log = played(rt, alloc, &scarce, REFUSED)?;
+    let told = log.told.as_str();
+    Ok(Refused {
+        as_told: told.is_empty() || told == REFUSED_TOLD,
+        offers: log.offers_again,
+        takes: log.takes_again,
+        is_whole: scarce.is_pending() && !told.is_empty(),
+    })
 }
 
 #[test]
 fn refused_offers_change_nothing(rt: HostRuntime) -> Result<(), Fail> {
     let (mut offers, mut takes) = (0u64, 0u64);
     for number in 1..5000u64 {
-        let scarce = Refusing::new(rt.alloc(), number);
-        let subs = Subs::read(rt.alloc(), THREE_STATIONS)?;
-        let Ok(prepared) = prepare(&scarce, subs) else {
-            continue;
-        };
-        let log = Log::new(rt.alloc());
-        let scripts = Scripts { text: REFUSED };
-        let log = scene::<Brand, _>(&rt, &scarce, prepared, scripts, log)?;
-        if log.told.is_empty() {
-            continue;
-        }
-        assert_eq!(rt;
-            log.told.as_str(),
-            "1 85 41 0 1 received 1 missing 4 ",
-            "{number}"
-        );
-        offers = offers.saturating_add(log.offers_again);
-        takes = takes.saturating_add(log.takes_again);
-        if scarce.is_pending() {
+        let refused = with_refusal(&rt, rt.alloc(), number)?;
+        assert!(rt; refused.as_told, "{number}");
+        offers = offers.saturating_add(refused.offers);
+        takes = takes.saturating_add(refused.takes);
+        if refused.is_whole {
             break;
         }
     }
-    assert!(rt; offers > 10, "{offers} offers");
-    assert_eq!(rt; takes, 1);
+    assert!(rt; offers > 10 && takes == 1, "{offers} offers, {takes} takes");
     Ok(())
 }

@@ -9,7 +9,7 @@ use xp_packets::Modulus;
 use xp_relay::Agreed;
 
 /// What the answer to an incoming call settles.
-#[derive(Clone, Copy, Default, PartialEq, Eq)]
+#[derive(Clone, Copy)]
 pub struct Agreement {
     /// The packet and window sizes of the call.
     pub terms: Terms,

@@ -16,7 +16,6 @@ use xp_packets::{Digits, End};
 use xp_subs::LineNo;
 
 /// A virtual call between two lines, from its call request to its clearing.
-#[derive(PartialEq)]
 pub struct LiveCall {
     /// The call's number, from 1.
     pub number: u64,
@@ -49,7 +48,7 @@ impl Drop for LiveCall {
 }
 
 /// Which live call a line is in. A key may be used again, for a call of another number.
-#[derive(Clone, Copy, PartialEq, Eq)]
+#[derive(Clone, Copy)]
 pub struct CallKey {
     /// The call's number.
     pub number: u64,

@@ -4,7 +4,7 @@ use xp_packets::Digits;
 use xp_subs::LineNo;
 
 /// What becomes of a line that comes to a state of no call.
-#[derive(Clone, Copy, PartialEq, Eq)]
+#[derive(Clone, Copy)]
 pub enum NoCallState {
     /// It goes out of service.
     GoesOut,
@@ -15,7 +15,7 @@ pub enum NoCallState {
 }
 
 /// One change of the exchange's state.
-#[derive(Drop, PartialEq)]
+#[derive(Drop)]
 pub enum Change {
     /// A line comes into service.
     Rise {

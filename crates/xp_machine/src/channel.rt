@@ -7,10 +7,9 @@ use xp_channel::Channel;
 use xp_hunt::LineState;
 
 /// The state of a line's logical channel (X.25 Annex B).
-#[derive(Clone, Copy, Default, PartialEq, Eq)]
+#[derive(Clone, Copy)]
 pub enum ChannelState {
     /// Out of service: no connection.
-    #[default]
     Off,
     /// p1, ready.
     Ready,
@@ -75,7 +74,7 @@ impl ChannelState {
 }
 
 /// What the exchange keeps of one line.
-#[derive(Clone, Copy, Default, PartialEq, Eq)]
+#[derive(Clone, Copy)]
 pub struct LogicalChannel {
     /// The state of its logical channel.
     pub state: ChannelState,

@@ -169,18 +169,19 @@ impl<A: Allocator> MeteredRelay<A> {
     pub fn count(&self, here: End, packet: &Packet<A>) -> Result<Meter, OverLimit>
         ensures { (call : Coupled A) → RepresentsCall self.now.relay call → Counts self.now.meter here (judged packet.now (sent_by here call) (received_by here call)) result }
     {
-        let mut meter = self.meter;
-        if let Packet::DataPacket { ps, pr, octets, .. } = packet {
-            let octets = octets.len();
-            if self
-                .relay
-                .judge(here, SequenceNumbers { ps: *ps, pr: *pr }, octets)
-                == Judged::Accept
-            {
+        let Packet::DataPacket { ps, pr, octets, .. } = packet else {
+            return Ok(self.meter);
+        };
+        let octets = octets.len();
+        let numbers = SequenceNumbers { ps: *ps, pr: *pr };
+        match self.relay.judge(here, numbers, octets) {
+            Judged::Accept => {
+                let mut meter = self.meter;
                 meter.add(here, octets)?;
+                Ok(meter)
             }
+            Judged::Discard | Judged::Reset(_) => Ok(self.meter),
         }
-        Ok(meter)
     }
 }
 

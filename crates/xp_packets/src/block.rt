@@ -23,7 +23,7 @@ pub(crate) const NO_USER: usize = 0;
 
 /// The address block, facilities and user data of a call set-up or clearing packet
 /// (X.25 clauses 5.2.1 to 5.2.5).
-#[derive(Clone, Debug, PartialEq)]
+#[derive(Clone)]
 pub struct Block<A: Allocator = Global> {
     /// The called address, 0 to 15 digits.
     pub called: Digits,

@@ -5,7 +5,7 @@ ghost use Rattle.xp_packets.specs.Owning.{owns_octets};
 ghost use Rattle.xp_packets.specs.steps.Reading.{MatchesReadingOrMemory, clear_at, clear_confirm_at};
 ghost use Rattle.xp_packets.specs.Writing.{written_cause};
 
-use crate::block::{MOST_USER, NO_USER, optional_block_of};
+use crate::block::{MOST_USER, NO_USER, optional_block_of, push_octets};
 use crate::fault::{Malformed, PacketFault};
 use crate::packet::Packet;
 use std::alloc::{AllocError, Allocator};
@@ -53,9 +53,8 @@ pub(crate) fn push_cause<A: Allocator>(
 ) -> Result<(), AllocError>
     ensures { OnOk result (out.new.items ≡ out.old.items ++ written_cause cause diagnostic) }
 {
-    out.push(cause)?;
-    if let Some(diagnostic) = diagnostic {
-        out.push(diagnostic)?;
+    match diagnostic {
+        None => push_octets(out, &[cause]),
+        Some(diagnostic) => push_octets(out, &[cause, diagnostic]),
     }
-    Ok(())
 }

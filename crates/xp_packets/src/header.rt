@@ -4,6 +4,7 @@ ghost use Rattle.std.specs.Prelude.{◌≡◌, ◌<◌, ◌/◌, ◌%◌, ◌==�
 ghost use Rattle.xp_packets.specs.Heading.{bit, heading, modulus_bits, wrong_flags, wrong_format};
 ghost use Rattle.xp_packets.specs.steps.Reading.{MatchesReading, header_at};
 
+use crate::block::push_octets;
 use crate::fault::Malformed;
 use crate::kind::Kind;
 use crate::modulus::Modulus;
@@ -107,9 +108,8 @@ pub(crate) fn push_heading<A: Allocator>(
     ensures { OnOk result (out.new.items ≡ out.old.items ++ heading modulus q d identifier) }
 {
     let [group, number] = identifier.to_be_bytes();
-    out.push(flagged(Q_BIT, q) | flagged(D_BIT, d) | (modulus_bits(modulus) << 4) | group)?;
-    out.push(number)?;
-    Ok(())
+    let first = flagged(Q_BIT, q) | flagged(D_BIT, d) | (modulus_bits(modulus) << 4) | group;
+    push_octets(out, &[first, number])
 }
 
 /// The mask if the bit is set, otherwise zero.

@@ -6,7 +6,7 @@ use std::marker::Model;
 pub(crate) const MOST_IN_PLACE: usize = 22;
 
 /// A few octets, stored in place.
-#[derive(Debug, Drop)]
+#[derive(Drop)]
 pub(crate) struct InPlaceOctets {
     octets: [u8; MOST_IN_PLACE],
     count: u8,

@@ -7,7 +7,7 @@ use crate::modulus::Modulus;
 
 /// The kinds of packets. The type octet of a data packet has P(S). Modulo 8 the type octets of the last four kinds have
 /// P(R), and that of a data packet has the M bit.
-#[derive(Clone, Copy, PartialEq, Eq)]
+#[derive(Clone, Copy)]
 pub(crate) enum Kind {
     Call,
     Accepted,

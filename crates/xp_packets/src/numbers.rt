@@ -7,6 +7,7 @@ ghost use Rattle.xp_packets.specs.Numbers.{data_octets, flow_octets, is_over, nu
 ghost use Rattle.xp_packets.specs.steps.Numbers.{data_numbers_at};
 ghost use Rattle.xp_packets.specs.steps.Reading.{MatchesReading};
 
+use crate::block::push_octets;
 use crate::fault::Malformed;
 use crate::header::flagged;
 use crate::kind::Kind;
@@ -47,13 +48,9 @@ pub(crate) fn push_data_octets<A: Allocator>(
     ensures { OnOk result (out.new.items ≡ out.old.items ++ data_octets modulus ps pr more) }
 {
     match modulus {
-        Modulus::Eight => out.push((pr << 5) | flagged(MORE_BIT, more) | (ps << 1))?,
-        Modulus::Long => {
-            out.push(ps << 1)?;
-            out.push((pr << 1) | flagged(LONG_MORE_BIT, more))?;
-        }
+        Modulus::Eight => push_octets(out, &[(pr << 5) | flagged(MORE_BIT, more) | (ps << 1)]),
+        Modulus::Long => push_octets(out, &[ps << 1, (pr << 1) | flagged(LONG_MORE_BIT, more)]),
     }
-    Ok(())
 }
 
 /// Writes the type and P(R) of a flow control packet.
@@ -68,13 +65,9 @@ pub(crate) fn push_flow_octets<A: Allocator>(
     ensures { OnOk result (out.new.items ≡ out.old.items ++ flow_octets modulus pr kind false) }
 {
     match modulus {
-        Modulus::Eight => out.push((pr << 5) | kind.octet())?,
-        Modulus::Long => {
-            out.push(kind.octet())?;
-            out.push(pr << 1)?;
-        }
+        Modulus::Eight => push_octets(out, &[(pr << 5) | kind.octet()]),
+        Modulus::Long => push_octets(out, &[kind.octet(), pr << 1]),
     }
-    Ok(())
 }
 
 /// Reads the numbers and the M bit of a data packet. `rest` are the octets after the type octet. Also returns the

@@ -7,7 +7,6 @@ use std::sync::ArcSlice;
 
 /// The octets that a packet carries unchanged: user data, facilities or interrupt data. Copies share one block of
 /// memory.
-#[derive(Debug)]
 pub struct Octets<A: Allocator = Global> {
     held: Storage<A>,
 }
@@ -19,7 +18,7 @@ impl<A: Allocator> Drop for Octets<A> {
 }
 
 /// Where the octets are stored: a few in place, more in a shared block.
-#[derive(Debug, Drop)]
+#[derive(Drop)]
 enum Storage<A: Allocator> {
     InPlace(InPlaceOctets),
     Shared(ArcSlice<u8, A>),
@@ -135,20 +134,5 @@ impl<A: Allocator> Clone for Octets<A> {
 
     fn clone(&self) -> Result<Octets<A>, AllocError> {
         self.copy()
-    }
-}
-
-impl<A: Allocator> PartialEq for Octets<A> {
-    ghost use Rattle.std.specs.Cmp.Lexicographic.{pointwise};
-    ghost use Rattle.std.specs.Prelude.{◌==◌};
-    ghost use Rattle.std.proofs.Common.{rules};
-    ghost use Rattle.std.specs.Cmp.Rules.{comparing};
-
-    ghost eq = { λ a b. pointwise ◌==◌ a b };
-
-    ghost laws = { Prim.search (comparing, rules) };
-
-    fn eq(&self, other: &Octets<A>) -> bool {
-        self.as_slice() == other.as_slice()
     }
 }

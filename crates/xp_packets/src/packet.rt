@@ -5,7 +5,7 @@ use crate::octets::Octets;
 use std::alloc::{AllocError, Allocator, Global};
 
 /// A packet between a DTE and the exchange (X.25 clause 5), without its logical channel identifier.
-#[derive(Clone, Debug, PartialEq)]
+#[derive(Clone)]
 pub enum Packet<A: Allocator = Global> {
     /// Call request and incoming call (clause 5.2.2).
     Call {

@@ -127,8 +127,7 @@ fn push_type<A: Allocator>(
 fn push_kind<A: Allocator>(out: &mut Vec<u8, A>, kind: Kind) -> Result<(), AllocError>
     ensures { OnOk result (out.new.items ≡ out.old.items ++ octet_of kind ∷ []) }
 {
-    out.push(kind.octet())?;
-    Ok(())
+    push_octets(out, &[kind.octet()])
 }
 
 /// Writes the octets after the type and the numbers.

@@ -8,8 +8,8 @@ use toml::{Table, Value};
 use xp_file::SubscriptionFault;
 use xp_subs::Subs;
 
-/// A line that no check refuses.
-const GOOD_LINE: &str = r#"{ name = "x", port = 1 }"#;
+/// The lines of a station, and a comma. No check refuses them.
+const GOOD_LINES: &str = r#"line = [{ name = "x", port = 1 }], "#;
 
 /// The first part of the file that is refused for this fault where it stands alone: a line, a group or the redirection of a station,
 /// else a station. `None` where no station is.
@@ -44,51 +44,53 @@ fn part_of<'a>(
     station: &'a Table,
     fault: SubscriptionFault,
 ) -> Result<Place<'a>, AllocError> {
-    if let Some((place, line)) = refused_line(alloc, station, fault)? {
+    if let Some((place, line)) = refused_among(alloc, station, "line", "", fault)? {
         return Ok(Place::Line(number, station, place, line));
     }
-    if let Some((place, group)) = refused_group(alloc, station, fault)? {
+    if let Some((place, group)) = refused_among(alloc, station, "group", GOOD_LINES, fault)? {
         return Ok(Place::Group(number, station, place, group));
     }
-    if let Some(value) = station.get("redirect") {
-        let text = format_args!(
-            r#"station = [{{ address = "1", line = [{GOOD_LINE}], redirect = {value} }}]"#
-        );
-        if let (Some(redirect), true) = (value.as_table(), is_refused(alloc, text, fault)?) {
-            return Ok(Place::Redirection(number, station, redirect));
-        }
+    match refused_redirection(alloc, station, fault)? {
+        Some(redirect) => Ok(Place::Redirection(number, station, redirect)),
+        None => Ok(Place::Station(number, station)),
     }
-    Ok(Place::Station(number, station))
 }
 
-fn refused_line<'a>(
+/// The first table of this array of a station that is refused for this fault, and its number from 1 on. Each is tried in a station that has
+/// it alone, behind these other keys.
+fn refused_among<'a>(
     alloc: Global,
     station: &'a Table,
+    key: &str,
+    others: &str,
     fault: SubscriptionFault,
 ) -> Result<Option<(usize, &'a Table)>, AllocError> {
-    for (place, value) in array(station, "line").iter().enumerate() {
-        let text = format_args!(r#"station = [{{ address = "1", line = [{value}] }}]"#);
-        if let (Some(line), true) = (value.as_table(), is_refused(alloc, text, fault)?) {
-            return Ok(Some((place + 1, line)));
+    for (place, value) in array(station, key).iter().enumerate() {
+        let Some(part) = value.as_table() else {
+            continue;
+        };
+        let text = format_args!(r#"station = [{{ address = "1", {others}{key} = [{value}] }}]"#);
+        if is_refused(alloc, text, fault)? {
+            return Ok(Some((place + 1, part)));
         }
     }
     Ok(None)
 }
 
-fn refused_group<'a>(
+/// The redirection of a station, if it is refused for this fault.
+fn refused_redirection<'a>(
     alloc: Global,
     station: &'a Table,
     fault: SubscriptionFault,
-) -> Result<Option<(usize, &'a Table)>, AllocError> {
-    for (place, value) in array(station, "group").iter().enumerate() {
-        let text = format_args!(
-            r#"station = [{{ address = "1", line = [{GOOD_LINE}], group = [{value}] }}]"#
-        );
-        if let (Some(group), true) = (value.as_table(), is_refused(alloc, text, fault)?) {
-            return Ok(Some((place + 1, group)));
-        }
-    }
-    Ok(None)
+) -> Result<Option<&'a Table>, AllocError> {
+    let Some(value) = station.get("redirect") else {
+        return Ok(None);
+    };
+    let Some(redirect) = value.as_table() else {
+        return Ok(None);
+    };
+    let text = format_args!(r#"station = [{{ address = "1", {GOOD_LINES}redirect = {value} }}]"#);
+    Ok(is_refused(alloc, text, fault)?.then_some(redirect))
 }
 
 /// Whether a file of this text is refused for this fault.
@@ -99,9 +101,8 @@ pub(crate) fn is_refused(
 ) -> Result<bool, AllocError> {
     let mut file = String::new(alloc);
     write!(file, "{text}")?;
-    match Subs::read(alloc, &file) {
-        Ok(_) => Ok(false),
-        Err(SubscriptionFault::Memory) => Err(AllocError),
-        Err(other) => Ok(other == fault),
+    match Subs::read(alloc, &file).err() {
+        Some(SubscriptionFault::Memory) => Err(AllocError),
+        refused => Ok(refused == Some(fault)),
     }
 }

@@ -22,13 +22,22 @@ pub(crate) fn rivals<'a>(
     file: &'a Table,
 ) -> Result<Option<(Place<'a>, Place<'a>)>, AllocError> {
     let callers = callers(alloc, file)?;
-    let mut behind: IndexMap<String, usize> = IndexMap::new(alloc);
+    let mut behind = IndexMap::new(alloc);
+    first_rivals(alloc, &callers, &mut behind)
+}
+
+/// The first of these that is behind a router with one before it, behind that one. Notes which is the first behind each router.
+fn first_rivals<'a>(
+    alloc: Global,
+    callers: &[Caller<'a>],
+    behind: &mut IndexMap<String, usize>,
+) -> Result<Option<(Place<'a>, Place<'a>)>, AllocError> {
     for (number, caller) in callers.iter().enumerate() {
         let routers = routers_of(alloc, caller.station)?;
-        if let Some(rival) = first_behind(&behind, &routers).and_then(|first| callers.get(first)) {
+        if let Some(rival) = first_behind(behind, &routers).and_then(|first| callers.get(first)) {
             return Ok(Some((rival.place, caller.place)));
         }
-        add_behind(alloc, &mut behind, &routers, number)?;
+        add_behind(alloc, behind, &routers, number)?;
     }
     Ok(None)
 }

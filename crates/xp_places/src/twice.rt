@@ -21,7 +21,16 @@ pub(crate) fn twice_used<'a>(
     key: Key,
 ) -> Result<Option<(Use<'a>, Use<'a>)>, AllocError> {
     let uses = uses_of(alloc, file, key)?;
-    let mut places: IndexMap<String, usize> = IndexMap::new(alloc);
+    let mut places = IndexMap::new(alloc);
+    first_twice(alloc, &uses, &mut places)
+}
+
+/// The first of these whose value stands before it already, behind that one. Notes the place of each value before it.
+fn first_twice<'a>(
+    alloc: Global,
+    uses: &[Use<'a>],
+    places: &mut IndexMap<String, usize>,
+) -> Result<Option<(Use<'a>, Use<'a>)>, AllocError> {
     for (place, later) in uses.iter().enumerate() {
         let text = later.value.to_string(alloc)?;
         if let Some(earlier) = places.get(&text).and_then(|first| uses.get(*first)) {

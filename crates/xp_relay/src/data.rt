@@ -4,7 +4,7 @@ use std::alloc::{AllocError, Allocator, Global};
 use xp_packets::Octets;
 
 /// A data packet without P(S) and P(R), since each line has its own numbers (X.25 clause 5.3.1).
-#[derive(Clone, Drop, PartialEq)]
+#[derive(Clone, Drop)]
 pub struct Data<A: Allocator = Global> {
     /// The Q bit.
     pub q: bool,
@@ -26,7 +26,7 @@ pub struct SequenceNumbers {
 }
 
 /// The state of the interrupt that one end sends (X.25 clause 4.3.7).
-#[derive(Clone, Drop, PartialEq)]
+#[derive(Clone, Drop)]
 pub enum Interruption<A: Allocator = Global> {
     /// There is no interrupt.
     Idle,

@@ -1,5 +1,5 @@
 /// The decision on a data packet.
-#[derive(Clone, Copy, Debug, PartialEq, Eq)]
+#[derive(Clone, Copy, PartialEq, Eq)]
 pub enum Judged {
     /// It is accepted.
     Accept,

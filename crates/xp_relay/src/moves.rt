@@ -5,7 +5,7 @@ use std::marker::Model;
 use xp_packets::{End, Packet};
 
 /// A packet for one end of the call.
-#[derive(Clone, Drop, PartialEq)]
+#[derive(Drop)]
 pub struct Move<A: Allocator = Global> {
     /// The end that receives it.
     pub side: End,

@@ -1,10 +1,9 @@
 //! One run of a row.
 
 use crate::row::{Row, TablesFile};
-use std::alloc::{Allocator, Global};
+use std::alloc::{AllocError, Allocator, Global};
 use std::fs;
 use std::rt::Files;
-use xp_exchange::ReplayFault;
 use xp_script::NamedTables;
 use xp_tasks::{TaskFailure, perform, subscriptions};
 
@@ -24,12 +23,15 @@ impl Outcome {
         }
     }
 
-    /// Whether memory was wanted.
-    pub fn wants_memory(&self) -> bool {
-        matches!(
-            self.ended,
-            Err(TaskFailure::Memory | TaskFailure::Replay(ReplayFault::Memory))
-        )
+    /// Whether want of memory is told, with its status.
+    pub fn tells_want(&self, alloc: Global) -> Result<bool, AllocError> {
+        match &self.ended {
+            Ok(()) => Ok(false),
+            Err(failure) => {
+                let told = failure.to_string(alloc)?;
+                Ok(told.as_str() == "xp: memory" && failure.status() == 4)
+            }
+        }
     }
 }
 

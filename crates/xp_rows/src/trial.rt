@@ -34,7 +34,7 @@ pub enum Verdict {
 pub fn verdict_on<R: AllocGlobal + Files>(rt: &R, row: &Row) -> Result<Verdict, AllocError> {
     let outcome = run(rt, row, rt.alloc());
     match compared(rt, row, &outcome)? {
-        Verdict::AsExpected if !row.once => Ok(with_refusals(rt, row, &outcome)),
+        Verdict::AsExpected if !row.once => with_refusals(rt, row, &outcome),
         verdict => Ok(verdict),
     }
 }
@@ -58,21 +58,28 @@ fn compared<R: AllocGlobal>(rt: &R, row: &Row, outcome: &Outcome) -> Result<Verd
 }
 
 /// Refuses the 1st, 2nd, 3rd .. request for memory, until a run meets no refusal.
-fn with_refusals<R: AllocGlobal + Files>(rt: &R, row: &Row, whole: &Outcome) -> Verdict {
+fn with_refusals<R: AllocGlobal + Files>(
+    rt: &R,
+    row: &Row,
+    whole: &Outcome,
+) -> Result<Verdict, AllocError> {
     for number in 1..MOST_REQUESTS {
         let scarce = Refusing::new(rt.alloc(), number);
         let outcome = run(rt, row, &scarce);
         if scarce.is_pending() {
-            return match number == 1 && is_replayed(row, whole) {
+            return Ok(match number == 1 && is_replayed(row, whole) {
                 true => Verdict::NoRequest,
                 false => Verdict::AsExpected,
-            };
+            });
         }
-        if !outcome.wants_memory() || !whole.text.starts_with(outcome.text.as_slice()) {
-            return Verdict::Memory;
+        let is_told = outcome.tells_want(rt.alloc());
+        let is_front = whole.text.starts_with(outcome.text.as_slice());
+        drop(outcome);
+        if !is_told? || !is_front {
+            return Ok(Verdict::Memory);
         }
     }
-    Verdict::Memory
+    Ok(Verdict::Memory)
 }
 
 /// Whether a script was replayed: a row whose subscription file is refused comes to none.

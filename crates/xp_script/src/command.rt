@@ -17,6 +17,18 @@ use xp_subs::{LineNo, Subs};
 /// The most octets of a line, without its line feed.
 pub const MAX_LINE_OCTETS: usize = 8192;
 
+/// What a line begins with that makes a connection come.
+const UP: &[u8] = b"up";
+
+/// What a line begins with that makes a connection go.
+const DOWN: &[u8] = b"down";
+
+/// What a line begins with that ends the time to answer.
+const EXPIRE: &[u8] = b"expire";
+
+/// What a line begins with that brings octets.
+const IN: &[u8] = b"in";
+
 /// What a line begins with that tells a moment.
 const AT: &[u8] = b"at";
 
@@ -118,11 +130,14 @@ fn about_line<A: Allocator>(verb: &[u8], line: Option<LineNo>) -> Option<Command
     ensures { result ≡ said_of verb.now line }
 {
     let line = line?;
-    match verb {
-        b"up" => Some(Command::Up(line)),
-        b"down" => Some(Command::Down(line)),
-        b"expire" => Some(Command::Expire(line)),
-        _ => None,
+    if verb == UP {
+        Some(Command::Up(line))
+    } else if verb == DOWN {
+        Some(Command::Down(line))
+    } else if verb == EXPIRE {
+        Some(Command::Expire(line))
+    } else {
+        None
     }
 }
 
@@ -153,7 +168,7 @@ fn about_octets<A: Allocator>(
     ensures digits { LacksMemory result → IsSome (octets_of digits.now) }
 {
     match line {
-        Some(line) if matches!(verb, b"in") => Ok(Command::In(line, octets_of(digits, memory)?)),
+        Some(line) if verb == IN => Ok(Command::In(line, octets_of(digits, memory)?)),
         _ => Err(LineFault::Faulty),
     }
 }

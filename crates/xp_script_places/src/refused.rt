@@ -20,24 +20,19 @@ pub fn refused_tables(
     fault: ReloadFault,
 ) -> Result<String, AllocError> {
     let name = named.name();
-    match fault {
-        ReloadFault::JournalFull => format!(in alloc; "tables {name}: journal full"),
-        ReloadFault::InCall(line) => {
+    let (line, what) = match fault {
+        ReloadFault::JournalFull => (None, "journal full"),
+        ReloadFault::InCall(line) => (Some(line), "in a call"),
+        ReloadFault::InService(line) => (Some(line), "in service"),
+        ReloadFault::Frame(FrameChange::Modulus(line)) => (Some(line), "another modulus"),
+        ReloadFault::Frame(change) => (None, changed(change)),
+    };
+    match line {
+        Some(line) => {
             let line = name_of(force, line);
-            format!(in alloc; "tables {name}: line {line}: in a call")
+            format!(in alloc; "tables {name}: line {line}: {what}")
         }
-        ReloadFault::InService(line) => {
-            let line = name_of(force, line);
-            format!(in alloc; "tables {name}: line {line}: in service")
-        }
-        ReloadFault::Frame(FrameChange::Modulus(line)) => {
-            let line = name_of(force, line);
-            format!(in alloc; "tables {name}: line {line}: another modulus")
-        }
-        ReloadFault::Frame(change) => {
-            let what = changed(change);
-            format!(in alloc; "tables {name}: {what}")
-        }
+        None => format!(in alloc; "tables {name}: {what}"),
     }
 }
 

@@ -41,10 +41,10 @@ impl Trial<'_, '_> {
 
     /// What a line wants that begins with this word. `None` where no line does.
     pub(crate) fn form_of(&self, word: &[u8]) -> Result<Option<Form>, AllocError> {
-        let name = self.first_name().as_bytes();
-        if let Some(Command::At(_)) = self.read(&joined(self.alloc, &[word, b"0"])?)? {
+        if self.is_moment(word)? {
             return Ok(Some(Form::Moment));
         }
+        let name = self.first_name().as_bytes();
         if self.are_line(&[word, name])? {
             return Ok(Some(Form::Line));
         }
@@ -55,6 +55,12 @@ impl Trial<'_, '_> {
             return Ok(Some(Form::Tables));
         }
         Ok(None)
+    }
+
+    /// Whether a line that begins with this word tells a moment.
+    fn is_moment(&self, word: &[u8]) -> Result<bool, AllocError> {
+        let command = self.read(&joined(self.alloc, &[word, b"0"])?)?;
+        Ok(matches!(command, Some(Command::At(_))))
     }
 
     /// The name of the first line.

@@ -102,21 +102,15 @@ fn push_form(
     let Some((word, behind)) = words.split_first() else {
         return push_any(told, line);
     };
-    match (trial.form_of(word)?, behind) {
-        (Some(Form::Moment), [digits]) => write!(
-            told,
-            "a number of 1 to 20 digits up to {} is wanted, found {}",
-            u64::MAX,
-            Shown(digits)
-        ),
-        (Some(Form::Line), [name]) => push_name(told, name),
-        (Some(Form::Octets), [name, digits]) => push_octets(trial, told, word, name, digits),
-        (Some(Form::Tables), [name]) => write!(told, "no tables are named {}", Shown(name)),
-        (Some(Form::Moment), _) => push_usage(told, word, "N", line),
-        (Some(Form::Line), _) => push_usage(told, word, "LINE", line),
-        (Some(Form::Octets), _) => push_usage(told, word, "LINE HEX", line),
-        (Some(Form::Tables), _) => push_usage(told, word, "NAME", line),
-        (None, _) => push_any(told, line),
+    let Some(form) = trial.form_of(word)? else {
+        return push_any(told, line);
+    };
+    match (form, behind) {
+        (Form::Moment, [digits]) => push_moment(told, digits),
+        (Form::Line, [name]) => push_name(told, name),
+        (Form::Octets, [name, digits]) => push_octets(trial, told, word, name, digits),
+        (Form::Tables, [name]) => write!(told, "no tables are named {}", Shown(name)),
+        _ => push_usage(told, word, form, line),
     }
 }
 
@@ -130,12 +124,28 @@ fn push_any(told: &mut String, line: &[u8]) -> Result<(), AllocError> {
 }
 
 /// A line of this form is wanted.
-fn push_usage(told: &mut String, word: &[u8], behind: &str, line: &[u8]) -> Result<(), AllocError> {
+fn push_usage(told: &mut String, word: &[u8], form: Form, line: &[u8]) -> Result<(), AllocError> {
+    let behind = match form {
+        Form::Moment => "N",
+        Form::Line => "LINE",
+        Form::Octets => "LINE HEX",
+        Form::Tables => "NAME",
+    };
     write!(
         told,
         "wanted: {} {behind}, found {}",
         word.escape_ascii(),
         Shown(line)
+    )
+}
+
+/// The digits of a moment are wanted.
+fn push_moment(told: &mut String, digits: &[u8]) -> Result<(), AllocError> {
+    write!(
+        told,
+        "a number of 1 to 20 digits up to {} is wanted, found {}",
+        u64::MAX,
+        Shown(digits)
     )
 }
 

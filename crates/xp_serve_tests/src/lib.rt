@@ -1,12 +1,10 @@
-//! Tests of what no run of the program shows: notices for which there is no room, a queue of traced pieces that is full, octets that are
-//! left out of a trace in the middle of frames, and a link without a call.
+//! Tests of what no run of the program shows: notices for which there is no room, a queue of traced pieces that is full, and a link
+//! without a call.
 #![tactic(auto)]
 
 #[cfg(test)]
 mod links;
 #[cfg(test)]
 mod notices;
-#[cfg(test)]
-mod streams;
 #[cfg(test)]
 mod taps;

@@ -30,18 +30,21 @@ fn ends_of<R: Net>(rt: &R, alloc: Global) -> Result<Ends, Fail> {
     Ok(sockets.into_ends(alloc)?)
 }
 
+/// What comes of a clear request on the link of the first line.
+fn pushed(ends: &mut Ends) -> Option<Pushed> {
+    let (port, _clock) = ends.lines.first_mut()?;
+    match port.next() {
+        Arrived::Came(mut link) => Some(link.push(CLEAR)),
+        _ => None,
+    }
+}
+
 /// Only a call begins a connection to the router.
 #[test]
 fn clear_without_a_call(rt: HostRuntime) -> Result<(), Fail> {
     let mut ends = ends_of(&rt, rt.alloc())?;
-    let Some((port, _clock)) = ends.lines.pop() else {
-        return Err("no line".into());
-    };
-    let mut port = port;
-    let Arrived::Came(link) = port.next() else {
-        return Err("no link".into());
-    };
-    let mut link = link;
-    assert_eq!(rt; link.push(CLEAR), Pushed::Fault);
+    let pushed = pushed(&mut ends);
+    drop(ends);
+    assert!(rt; pushed == Some(Pushed::Fault));
     Ok(())
 }

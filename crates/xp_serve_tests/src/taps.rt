@@ -37,34 +37,65 @@ fn two_frames() -> [u8; 8_192] {
     octets
 }
 
+/// Fills the queue with whole frames, and lets 8,000 octets more pass, another frame the other way, and, once the queue was taken, the rest
+/// of the 8,192 and a frame. How many octets were left out each time, and of the one piece that waits in the end how many there are,
+/// its sequence number and how far the other way was.
+fn filled(trace: &Trace, tap: &mut Tap, pieces: &mut WaitingPieces) -> [u64; 8] {
+    let octets = two_frames();
+    let (first, second) = octets.split_at(octets.len().min(8_000));
+    for _frame in 0..ROOM / 4_096 {
+        tap.receive(&first[..first.len().min(4_096)]);
+    }
+    let whole = trace.left_out();
+    tap.receive(first);
+    let cut = trace.left_out();
+    tap.send(FRAME);
+    let sent = trace.left_out();
+    trace.exchange(pieces);
+    let taken = pieces.pieces().len() as u64;
+    pieces.clear();
+    tap.receive(second);
+    let left_out = trace.left_out();
+    tap.receive(FRAME);
+    trace.exchange(pieces);
+    let (sequence, acknowledged) = match pieces.pieces().first() {
+        Some(piece) => (u64::from(piece.sequence), u64::from(piece.acknowledged)),
+        None => (0, 0),
+    };
+    let last = pieces.pieces().len() as u64;
+    [
+        whole,
+        cut,
+        sent,
+        taken,
+        left_out,
+        last,
+        sequence,
+        acknowledged,
+    ]
+}
+
 /// What a full queue has no room for is counted to the octet, and what comes when there is room again begins with a frame.
 #[test]
 fn queue_that_is_full(rt: HostRuntime) -> Result<(), Fail> {
-    let octets = two_frames();
     let mut pieces = WaitingPieces::new(rt.alloc())?;
     let trace = new_trace(rt.alloc())?;
     let mut tap = next_tap(rt.alloc(), &trace)?.ok_or("no tap")?;
-    let first = &octets[..octets.len().min(4_096)];
-    for _frame in 0..ROOM / 4_096 {
-        tap.receive(first);
-    }
-    assert_eq!(rt; trace.left_out(), 0);
-    tap.receive(&octets[..octets.len().min(8_000)]);
-    assert_eq!(rt; trace.left_out(), 8_000);
-    tap.send(FRAME);
-    assert_eq!(rt; trace.left_out(), 8_007);
-    trace.exchange(&mut pieces);
-    assert_eq!(rt; pieces.pieces().len(), ROOM / 4_096);
-    pieces.clear();
-    tap.receive(&octets[octets.len().min(8_000)..]);
-    assert_eq!(rt; trace.left_out(), 8_199);
-    tap.receive(FRAME);
-    trace.exchange(&mut pieces);
-    assert_eq!(rt; pieces.pieces().len(), 1);
-    let piece = pieces.pieces().first().ok_or("no piece")?;
-    assert_eq!(rt; piece.sequence, (1 + ROOM + 8_192) as u32);
-    assert_eq!(rt; piece.acknowledged, 8);
+    let filled = filled(&trace, &mut tap, &mut pieces);
+    drop(tap);
+    drop(trace);
+    drop(pieces);
+    assert!(rt; filled == [0, 8_000, 8_007, 4_096, 8_199, 1, 16_785_409, 8]);
     Ok(())
+}
+
+/// Lets so many short pieces pass, and stops the trace. How many octets were left out.
+fn flooded(trace: &Trace, tap: &mut Tap) -> u64 {
+    for _piece in 0..65_537 {
+        tap.send(FRAME);
+    }
+    trace.stop();
+    trace.left_out()
 }
 
 /// There is room for 65,536 pieces, however short they are. Once the trace is stopped, no connection has a tap.
@@ -72,11 +103,10 @@ fn queue_that_is_full(rt: HostRuntime) -> Result<(), Fail> {
 fn queue_of_many_pieces(rt: HostRuntime) -> Result<(), Fail> {
     let trace = new_trace(rt.alloc())?;
     let mut tap = next_tap(rt.alloc(), &trace)?.ok_or("no tap")?;
-    for _piece in 0..65_537 {
-        tap.send(FRAME);
-    }
-    assert_eq!(rt; trace.left_out(), 7);
-    trace.stop();
-    assert!(rt; next_tap(rt.alloc(), &trace)?.is_none());
+    let left_out = flooded(&trace, &mut tap);
+    drop(tap);
+    let next = next_tap(rt.alloc(), &trace)?;
+    drop(trace);
+    assert!(rt; left_out == 7 && next.is_none());
     Ok(())
 }

@@ -13,7 +13,7 @@ pub struct NextSubs {
 }
 
 /// Why other subscriptions did not come into force. Those before them are in force as they were.
-#[derive(Clone, Copy, Debug, PartialEq, Eq, Error)]
+#[derive(Clone, Copy, Debug, Error)]
 pub enum NotInForce {
     /// The exchange was halted.
     #[error("the exchange is halted")]

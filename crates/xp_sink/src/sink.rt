@@ -11,7 +11,7 @@ use xp_charge::Record;
 use xp_view::ExchangeView;
 
 /// The answer of a sink.
-#[derive(Clone, Copy, PartialEq)]
+#[derive(Clone, Copy)]
 pub enum Received {
     /// Serving goes on.
     GoesOn,

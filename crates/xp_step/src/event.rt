@@ -1,10 +1,11 @@
-ghost use Rattle.std.specs.Prelude.{◌≡◌, IfOk};
+ghost use Rattle.std.specs.Prelude.{◌≡◌};
 ghost use Rattle.xp_packets.specs.Encodability.{CanBeEncoded};
 ghost use Rattle.xp_packets.specs.declared.modulus.Modulus.TheVariants.{Long};
 ghost use Rattle.xp_step.specs.Exchange.{DialsFew, IsReadable};
 ghost use Rattle.xp_step.specs.Stalls.{places_for};
 
-use std::alloc::{AllocError, Allocator, Global};
+use std::alloc::{Allocator, Global};
+use std::fmt;
 use xp_packets::{Malformed, Packet};
 use xp_subs::LineNo;
 
@@ -12,7 +13,6 @@ use xp_subs::LineNo;
 pub const MOST_STALLS: usize = 3;
 
 /// What happened on one line.
-#[derive(Clone, Debug, PartialEq)]
 pub struct Event<A: Allocator = Global> {
     /// The line, one of the subscriptions'.
     pub line: LineNo,
@@ -32,8 +32,14 @@ impl<A: Allocator> Drop for Event<A> {
     }
 }
 
+/// Tells the line and the moment, and not what happened.
+impl<A: Allocator> fmt::Debug for Event<A> {
+    fn fmt<W: fmt::Write>(&self, f: &mut fmt::Formatter<W>) -> fmt::Result {
+        write!(f, "event of line {} at {}", self.line, self.moment)
+    }
+}
+
 /// What can happen on a line.
-#[derive(Clone, Debug, PartialEq)]
 pub enum What<A: Allocator = Global> {
     /// A connection came.
     Up,
@@ -67,15 +73,6 @@ impl<A: Allocator> Drop for What<A> {
             What::Stall => {}
             What::Reload => {}
         }
-    }
-}
-
-impl<A: Allocator + Copy> Event<A> {
-    /// Returns an equal event, in memory of the same allocator.
-    pub fn copy(&self) -> Result<Event<A>, AllocError>
-        ensures { IfOk result (λ copied. copied ≡ self.now) }
-    {
-        self.clone()
     }
 }
 

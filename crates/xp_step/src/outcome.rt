@@ -7,10 +7,9 @@ use xp_machine::Agreement;
 use xp_subs::LineNo;
 
 /// What an event settled that the table of actions leaves open.
-#[derive(Clone, Copy, Default, PartialEq, Eq)]
+#[derive(Clone, Copy)]
 pub enum Outcome {
     /// Nothing was left open.
-    #[default]
     Plain,
     /// A call request: the call was put to this line.
     Put { line: LineNo, setup: Setup },

@@ -6,7 +6,7 @@ use xp_packets::Packet;
 use xp_subs::LineNo;
 
 /// What is put out to a line: a packet over its connection, or the end of the connection.
-#[derive(Clone, Drop, PartialEq)]
+#[derive(Drop)]
 pub enum Put<A: Allocator = Global> {
     /// A packet, under this logical channel identifier, 0 to 4,095 (X.25 clauses 5.1.2 and 5.1.3).
     Send { identifier: u16, packet: Packet<A> },
@@ -15,7 +15,6 @@ pub enum Put<A: Allocator = Global> {
 }
 
 /// Something that is put out to one connection of a line.
-#[derive(Clone, PartialEq)]
 pub struct Outgoing<A: Allocator = Global> {
     /// The number of the connection. It is how often the line has come into service: 1 for its first connection.
     pub connection: u64,
@@ -33,7 +32,7 @@ impl<A: Allocator> Drop for Outgoing<A> {
 }
 
 /// Something that is put out to a line.
-#[derive(Clone, Drop, PartialEq)]
+#[derive(Drop)]
 pub struct Output<A: Allocator = Global> {
     /// The line, one of the subscriptions'.
     pub line: LineNo,

@@ -59,9 +59,9 @@ impl Subs {
         ensures laid { IfOk result (λ laid. IsLaid self.now next.now laid.1.items laid.0.items) }
         ensures refused { IfErr result (λ fault. fault ≢ OutOfMemory → CannotBeLaid self.now next.now fault) }
     {
+        self.check_moduli(next)?;
         let of_lines = self.numbers_in(alloc, &next.lines)?;
         let holders = next.numbers_in(alloc, &self.lines)?;
-        self.check_moduli(next)?;
         let mut places = Places { of_lines, holders };
         self.fill(next, Modulus::Eight, &mut places)?;
         self.fill(next, Modulus::Long, &mut places)?;

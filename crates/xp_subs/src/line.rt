@@ -7,7 +7,7 @@ use xp_file::{Access, Name, Sources};
 use xp_packets::{Digits, Modulus};
 
 /// One access line of a station, or a place that is kept for one.
-#[derive(Drop, PartialEq)]
+#[derive(Drop)]
 pub struct Line {
     pub name: Name,
     /// Its port or its router.

@@ -9,7 +9,7 @@ use xp_packets::Digits;
 
 /// A station's membership of a closed user group, and whether calls within the group are barred to it (X.25 clauses
 /// 6.14.1, 6.14.4 and 6.14.5).
-#[derive(Clone, Copy, Default, PartialEq, Eq)]
+#[derive(Clone, Copy, Default)]
 pub struct Membership {
     pub group: GroupNo,
     /// The index by which the station selects the group, 0 to 9,999.
@@ -21,7 +21,7 @@ pub struct Membership {
 }
 
 /// A station with the optional facilities that it has subscribed to (X.25 clause 6).
-#[derive(Drop, PartialEq)]
+#[derive(Drop)]
 pub struct Station {
     /// The address, 1 to 15 digits.
     pub address: Digits,

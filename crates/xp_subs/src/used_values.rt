@@ -1,5 +1,5 @@
 //! The addresses, names and ports of a subscription file. None of them may be used twice.
-ghost use Rattle.std.specs.Prelude.{◌≡◌, ◌≢◌, ◌+◌, ◌≤◌, Ok, Err, OnOk, IfOk, IfErr, length};
+ghost use Rattle.std.specs.Prelude.{◌≡◌, ◌≢◌, ◌+◌, ◌≤◌, Ok, Err, OnOk, IfErr, length};
 ghost use Rattle.xp_file.specs.declared.fault.SubscriptionFault.TheVariants.{Memory as OutOfMemory};
 
 use crate::target::Target;
@@ -35,7 +35,8 @@ impl UsedValues {
     ghost use Rattle.xp_subs.specs.steps.WithinLimits.{AreWithinLimits};
     ghost use Rattle.xp_subs.specs.steps.Passes.{with_address, with_name, with_names, with_port, with_access, with_ports, with_own, with_addresses, with_station, with_stations, nothing_used};
 
-    fn new(alloc: Global) -> UsedValues
+    /// No value.
+    pub(crate) fn new(alloc: Global) -> UsedValues
         ensures { result ≡ nothing_used }
     {
         UsedValues {
@@ -168,23 +169,22 @@ impl UsedValues {
         self.enter_addresses(number, first, &station.lines)
     }
 
-    /// The values that the stations use. Returns the first fault if an address, a name or a port is used twice.
-    pub(crate) fn of(
-        alloc: Global,
+    /// Enters the values that the stations use. Stops at the first address, name or port that is used twice.
+    pub(crate) fn enter_stations(
+        &mut self,
         stations: &[StationEntry],
-    ) -> Result<UsedValues, SubscriptionFault>
+    ) -> Result<(), SubscriptionFault>
         requires { AreWithinLimits stations.now }
-        ensures ok { IfOk result (λ uses. with_stations 0 0 stations.now nothing_used ≡ Ok uses) }
-        ensures refused { IfErr result (λ fault. fault ≢ OutOfMemory → with_stations 0 0 stations.now nothing_used ≡ Err fault) }
+        ensures ok { OnOk result (with_stations 0 0 stations.now self.old ≡ Ok self.new) }
+        ensures refused { IfErr result (λ fault. fault ≢ OutOfMemory → with_stations 0 0 stations.now self.old ≡ Err fault) }
     {
-        let mut uses = UsedValues::new(alloc);
         let mut number = 0;
         let mut line = 0;
         for station in stations {
-            uses.enter_station(number, line, station)?;
+            self.enter_station(number, line, station)?;
             number += 1;
             line += station.lines.len() as LineNo;
         }
-        Ok(uses)
+        Ok(())
     }
 }

@@ -19,6 +19,33 @@ struct Member {
     is_called: bool,
 }
 
+/// Stations that call, and those that they reach, each in the order of numbers.
+#[derive(Drop)]
+struct Sides {
+    callers: Vec<StationNo>,
+    called: Vec<StationNo>,
+}
+
+impl Sides {
+    fn new(alloc: Global) -> Sides {
+        Sides {
+            callers: Vec::new(alloc),
+            called: Vec::new(alloc),
+        }
+    }
+
+    /// Adds a station that calls, or is called, or both.
+    fn add(&mut self, number: StationNo, calls: bool, is_called: bool) -> Result<(), AllocError> {
+        if calls {
+            self.callers.push(number)?;
+        }
+        if is_called {
+            self.called.push(number)?;
+        }
+        Ok(())
+    }
+}
+
 /// Whether the station makes calls within the group of this membership.
 pub fn makes_calls(station: &Station, held: Membership) -> bool
     ensures { result ≡ makes_calls station.now held }
@@ -102,61 +129,51 @@ fn push_group(
     };
     let name = subs.group_name(first.group).unwrap_or("");
     writeln!(text, "group {name}")?;
-    let (mut callers, mut called) = (Vec::new(alloc), Vec::new(alloc));
+    let mut sides = Sides::new(alloc);
     for member in members {
-        if member.calls {
-            callers.push(member.station)?;
-        }
-        if member.is_called {
-            called.push(member.station)?;
-        }
+        sides.add(member.station, member.calls, member.is_called)?;
     }
-    push_callers(text, &callers, &called)
+    push_sides(text, &sides)
 }
 
 /// Those that call outside their groups, and those that are called from there.
 fn push_outside(alloc: Global, text: &mut String, subs: &Subs) -> Result<(), AllocError> {
-    writeln!(text, "outside the groups")?;
-    let (mut callers, mut called) = (Vec::new(alloc), Vec::new(alloc));
+    text.push_str("outside the groups\n")?;
+    let mut sides = Sides::new(alloc);
     for number in 0..subs.counts().stations {
         let number = number as StationNo;
         let station = subs.station(number);
-        if calls_outside(station) {
-            callers.push(number)?;
-        }
-        if is_called_from_outside(station) {
-            called.push(number)?;
-        }
+        sides.add(
+            number,
+            calls_outside(station),
+            is_called_from_outside(station),
+        )?;
     }
-    push_callers(text, &callers, &called)
+    push_sides(text, &sides)
 }
 
 /// Stations that call, and those that they reach.
-fn push_callers(
-    text: &mut String,
-    callers: &[StationNo],
-    called: &[StationNo],
-) -> Result<(), AllocError> {
-    write!(text, "  callers:")?;
-    push_numbers(text, callers)?;
-    write!(text, "  called:")?;
-    push_numbers(text, called)
+fn push_sides(text: &mut String, sides: &Sides) -> Result<(), AllocError> {
+    text.push_str("  callers:")?;
+    push_numbers(text, &sides.callers)?;
+    text.push_str("  called:")?;
+    push_numbers(text, &sides.called)
 }
 
 /// The numbers of these stations, from 1 on, in lines of some 80 columns. Those that follow one another are told as `2-5`.
 fn push_numbers(text: &mut String, stations: &[StationNo]) -> Result<(), AllocError> {
     if stations.is_empty() {
-        return writeln!(text, " none");
+        return text.push_str(" none\n");
     }
     let mut start = text.len();
     for (place, station) in stations.iter().enumerate() {
         if text.len().saturating_sub(start) >= WIDTH && !follows(stations, place) {
-            write!(text, "\n   ")?;
+            text.push_str("\n   ")?;
             start = text.len();
         }
         push_number(text, stations, place, *station)?;
     }
-    writeln!(text, "")
+    text.push_str("\n")
 }
 
 /// The number of the station in this place, where it begins or ends some that follow one another.

@@ -98,11 +98,10 @@ fn push_heading(text: &mut String, first: usize, past: usize) -> Result<(), Allo
     requires past { past ≤ most_stations }
 {
     let number = first + 1;
-    writeln!(text, "called stations {number} to {past}:")?;
-    write!(text, "    ")?;
+    write!(text, "called stations {number} to {past}:\n    ")?;
     for column in first..past {
         let digit = (column + 1) % 10;
         write!(text, "{digit}")?;
     }
-    writeln!(text, "")
+    text.push_str("\n")
 }

@@ -7,9 +7,7 @@ use crate::default_callers::is_default_caller;
 use std::alloc::AllocError;
 use std::fmt::Write;
 use xp_packets::Modulus;
-use xp_subs::{
-    Access, Facilities, LineNo, Membership, Redirection, Sources, Station, StationNo, Subs,
-};
+use xp_subs::{Access, Facilities, LineNo, Membership, Redirection, Sources, StationNo, Subs};
 
 /// A station, with its number from 1.
 pub(crate) fn push_station(
@@ -29,7 +27,9 @@ pub(crate) fn push_station(
     writeln!(text, "{shown} station {}{caller}", station.address)?;
     push_lines(text, subs, number)?;
     push_rights(text, &station.facilities)?;
-    push_groups(text, subs, station)?;
+    for held in station.memberships.as_slice() {
+        push_group(text, subs, station.preferential, *held)?;
+    }
     match &station.redirect {
         Some(redirect) => push_redirection(text, redirect),
         None => Ok(()),
@@ -59,10 +59,9 @@ fn push_line(text: &mut String, subs: &Subs, number: LineNo) -> Result<(), Alloc
         write!(text, ", address {address}")?;
     }
     if line.modulus == Modulus::Long {
-        write!(text, ", modulo 128")?;
+        text.push_str(", modulo 128")?;
     }
-    push_sources(text, &line.from)?;
-    writeln!(text, "")
+    push_sources(text, &line.from)
 }
 
 fn push_access(text: &mut String, access: &Access) -> Result<(), AllocError> {
@@ -78,17 +77,17 @@ fn push_access(text: &mut String, access: &Access) -> Result<(), AllocError> {
     }
 }
 
-/// The addresses from which connections may come, if not from any.
+/// The addresses from which connections may come, if not from any, up to the end of the line.
 fn push_sources(text: &mut String, sources: &Sources) -> Result<(), AllocError> {
     if sources.is_empty() {
-        return Ok(());
+        return text.push_str("\n");
     }
-    write!(text, ", from")?;
+    text.push_str(", from")?;
     for place in 0..sources.len() {
         let source = sources.get(place).unwrap_or("");
         write!(text, " {source}")?;
     }
-    Ok(())
+    text.push_str("\n")
 }
 
 /// The keys of its rights that are set.
@@ -102,9 +101,9 @@ fn push_rights(text: &mut String, rights: &Facilities) -> Result<(), AllocError>
         (rights.incoming_access, "incoming_access"),
     ];
     if *rights == Facilities::default() {
-        return writeln!(text, "  no special rights");
+        return text.push_str("  no special rights\n");
     }
-    write!(text, "  rights:")?;
+    text.push_str("  rights:")?;
     push_keys(text, &keys)
 }
 
@@ -121,21 +120,14 @@ fn push_redirection(text: &mut String, redirect: &Redirection) -> Result<(), All
 
 /// Those of the keys that are set, up to the end of the line.
 fn push_keys(text: &mut String, keys: &[(bool, &str)]) -> Result<(), AllocError> {
-    let mut is_any = false;
+    let mut end = " none\n";
     for (is_set, key) in keys {
         if *is_set {
             write!(text, " {key}")?;
-            is_any = true;
+            end = "\n";
         }
     }
-    writeln!(text, "{}", if is_any { "" } else { " none" })
-}
-
-fn push_groups(text: &mut String, subs: &Subs, station: &Station) -> Result<(), AllocError> {
-    for held in station.memberships.as_slice() {
-        push_group(text, subs, station.preferential, *held)?;
-    }
-    Ok(())
+    text.push_str(end)
 }
 
 /// A group, with the station's index and what is barred to it there.

@@ -24,7 +24,6 @@ pub fn summary(alloc: Global, subs: &Subs) -> Result<String, AllocError> {
     push_stations(&mut text, subs)?;
     push_calls(alloc, &mut text, subs)?;
     push_all_warnings(&mut text, subs)?;
-    push_all_line_warnings(&mut text, subs)?;
     Ok(text)
 }
 
@@ -38,28 +37,23 @@ fn push_counts(text: &mut String, subs: &Subs) -> Result<(), AllocError> {
         "stations {} lines {lines} groups {}",
         counts.stations, counts.groups
     )?;
-    if spare > 0 {
-        write!(text, " spare lines {spare}")?;
+    match spare {
+        0 => text.push_str("\n"),
+        _ => writeln!(text, " spare lines {spare}"),
     }
-    writeln!(text, "")
 }
 
 /// Who may call whom: a matrix, or where that would be too wide and too long, a list by groups.
 fn push_calls(alloc: Global, text: &mut String, subs: &Subs) -> Result<(), AllocError> {
     if subs.counts().stations > MOST_IN_MATRIX {
-        writeln!(
-            text,
-            "who may call whom, where lines are idle and no call is redirected: callers reach those called beside them"
+        text.push_str(
+            "who may call whom, where lines are idle and no call is redirected: callers reach those called beside them\n",
         )?;
         return push_groups(alloc, text, subs);
     }
-    writeln!(
-        text,
-        "who may call whom, where lines are idle and no call is redirected: a row for each caller"
-    )?;
-    writeln!(
-        text,
-        "x: put through, s: only with a closed user group selection, .: never"
+    text.push_str(
+        "who may call whom, where lines are idle and no call is redirected: a row for each caller\n\
+        x: put through, s: only with a closed user group selection, .: never\n",
     )?;
     push_matrix(alloc, text, subs)
 }
@@ -71,14 +65,11 @@ fn push_stations(text: &mut String, subs: &Subs) -> Result<(), AllocError> {
     Ok(())
 }
 
+/// What to look at again in the stations, and then in the lines.
 fn push_all_warnings(text: &mut String, subs: &Subs) -> Result<(), AllocError> {
     for number in 0..subs.counts().stations {
         push_warnings(text, subs, number as StationNo)?;
     }
-    Ok(())
-}
-
-fn push_all_line_warnings(text: &mut String, subs: &Subs) -> Result<(), AllocError> {
     for number in 0..subs.counts().lines {
         push_line_warnings(text, subs, number as LineNo)?;
     }

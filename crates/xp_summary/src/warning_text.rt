@@ -31,10 +31,7 @@ fn push_redirection_warnings(
     found: StationWarnings<'_>,
 ) -> Result<(), AllocError> {
     if found.in_circle {
-        writeln!(
-            text,
-            "warning: station {address}: redirections lead back to it"
-        )?;
+        push_warning(text, address, "redirections lead back to it")?;
     }
     if let Some(alternate) = found.alternate_of_nobody {
         writeln!(
@@ -43,10 +40,8 @@ fn push_redirection_warnings(
         )?;
     }
     if found.redirects_never {
-        writeln!(
-            text,
-            "warning: station {address}: its redirection has none of systematic, busy and out_of_order"
-        )?;
+        let why = "its redirection has none of systematic, busy and out_of_order";
+        return push_warning(text, address, why);
     }
     Ok(())
 }
@@ -66,12 +61,14 @@ fn push_calling_warnings(
         )?;
     }
     if found.needs_selection {
-        writeln!(
-            text,
-            "warning: station {address}: it reaches no station without a selection of a group"
-        )?;
+        let why = "it reaches no station without a selection of a group";
+        return push_warning(text, address, why);
     }
     Ok(())
+}
+
+fn push_warning(text: &mut String, address: &Digits, why: &str) -> Result<(), AllocError> {
+    writeln!(text, "warning: station {address}: {why}")
 }
 
 /// The groups that it alone is in.

@@ -57,7 +57,7 @@ fn lines_with_calls<A: Allocator, B: Allocator>(
     let count = core.subs().counts().lines;
     let mut lines = Vec::with_capacity(alloc, count)?;
     for line in 0..count {
-        lines.push(see_line(core, line as LineNo))?;
+        lines.push_reserved(see_line(core, line as LineNo));
     }
     Ok(lines)
 }

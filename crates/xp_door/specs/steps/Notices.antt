@@ -1,5 +1,5 @@
 -- The text of a notice.
-use Rattle.std.specs.Prelude.{ℕ, ◌+◌, Bool, true, false, List, [], ◌∷◌, ◌++◌, codes, decimal, map, min, nat_le, take, if◌then◌else◌}
+use Rattle.std.specs.Prelude.{ℕ, ◌+◌, Bool, true, false, List, [], ◌∷◌, ◌++◌, Option, None, Some, codes, decimal, map, min, nat_le, take, if◌then◌else◌}
 use Rattle.std.specs.Net.Text.{socket_text}
 use Rattle.xp_door.specs.declared.calls.ClearedCall.{ClearedCall}
 use Rattle.xp_door.specs.declared.connect_fault.ConnectFault.{ConnectFault}
@@ -9,6 +9,9 @@ use Rattle.xp_door.specs.declared.down_reason.DownReason.{DownReason}
 use Rattle.xp_door.specs.declared.down_reason.DownReason.TheVariants as reasons
 use Rattle.xp_door.specs.declared.notices.Notice.{Notice}
 use Rattle.xp_door.specs.declared.notices.Notice.TheVariants.{CallCleared, Closed, Connected, DoorFailing, DoorWorks, Down, EndedEarly, HasOne, MoreRefused, NoCaller, NoFrame, NoFraming, NoFreeLine, NoRoom, NoRouter, NotConnected, PortFailing, PortWorks, Refused, Replaced, Up}
+use Rattle.xp_door.specs.declared.notice_words.Subject.{Subject}
+use Rattle.xp_door.specs.declared.notice_words.Subject.TheVariants as subjects
+use Rattle.xp_door.specs.declared.notice_words.Words.{Words}
 use Rattle.xp_words.specs.Causes.{cause_text, diagnostic_text}
 use Rattle.xp_words.specs.Names.{clearing_causes}
 
@@ -30,6 +33,11 @@ reason_text reasons.Replaced = codes "replaced by another connection"
 reason_text reasons.GivenUp = codes "given up by the exchange"
 reason_text reasons.Reload = codes "ended by a reload"
 
+-- words, and where there is a number that and words after it
+abbrev pub numbered_text : List ℕ → Option ℕ → List ℕ → List ℕ
+numbered_text before None after = before
+numbered_text before (Some number) after = before ++ (decimal number ++ after)
+
 -- the digit that a half-octet is, or a question mark
 abbrev pub glyph : ℕ → ℕ
 glyph half = if nat_le half 9 then 48 + half else 63
@@ -49,11 +57,11 @@ end_text true = codes "cleared"
 end_text false = codes "refused"
 
 abbrev pub why_text : ℕ → ℕ → List ℕ
-why_text cause diagnostic = codes "cause " ++ cause_text clearing_causes cause ++ codes ", diagnostic " ++ diagnostic_text diagnostic
+why_text cause diagnostic = codes "cause " ++ (cause_text clearing_causes cause ++ (codes ", diagnostic " ++ diagnostic_text diagnostic))
 
 abbrev pub cleared_text : ClearedCall → List ℕ
 cleared_text call =
-    codes "call to " ++ dialled_text call.dialled ++ codes " " ++ end_text call.was_connected ++ codes ": " ++ why_text call.cause call.diagnostic
+    codes "call to " ++ (dialled_text call.dialled ++ (codes " " ++ (end_text call.was_connected ++ (codes ": " ++ why_text call.cause call.diagnostic))))
 
 -- the text of a notice, without its line
 abbrev pub text_of : Notice → List ℕ
@@ -78,3 +86,15 @@ text_of (NoFraming peer) = codes "connection from " ++ socket_text peer ++ codes
 text_of (EndedEarly peer) = codes "connection from " ++ socket_text peer ++ codes " ended before its first frame was whole"
 text_of DoorFailing = codes "port fails: no connection can be accepted"
 text_of DoorWorks = codes "port works again"
+
+abbrev pub subject_text : Subject → List ℕ
+subject_text (subjects.Peer peer) = socket_text peer
+subject_text (subjects.Count count) = decimal count
+subject_text (subjects.Reason reason) = reason_text reason
+subject_text (subjects.Fault fault) = fault_text fault
+subject_text (subjects.Call call) = cleared_text call
+subject_text subjects.Nothing = []
+
+-- words, what they tell of, and words after that
+abbrev pub words_text : Words → List ℕ
+words_text words = words.0.now ++ (subject_text words.1 ++ words.2.now)

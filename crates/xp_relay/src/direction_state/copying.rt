@@ -1,8 +1,9 @@
 //! Copies of a direction.
 
-ghost use Rattle.std.specs.Prelude.{◌≡◌, IfOk, OnOk};
+ghost use Rattle.std.specs.Prelude.{◌≡◌, ◌≤◌, [], IfOk, OnOk, length};
+ghost use Rattle.std.specs.VecDeque.{deque_capacity};
 
-use crate::data::{Data, Interruption};
+use crate::data::Data;
 use crate::direction_state::DirectionState;
 use std::alloc::{AllocError, Allocator};
 use std::collections::VecDeque;
@@ -12,20 +13,17 @@ impl<A: Allocator + Copy> DirectionState<A> {
     pub(crate) fn copy(&self) -> Result<DirectionState<A>, AllocError>
         ensures { IfOk result (λ copied. copied ≡ self.now) }
     {
-        let mut held = VecDeque::with_capacity(
-            *self.held.allocator(),
-            usize::from(self.terms.window),
-        )?;
-        for place in 0..self.held.len() {
-            held.push_back_reserved(self.held[place].copy()?);
-        }
+        let interrupt = self.interrupt.copy()?;
+        let alloc = *self.held.allocator();
+        let mut held = VecDeque::with_capacity(alloc, usize::from(self.terms.window))?;
+        copy_held(&self.held, &mut held)?;
         Ok(DirectionState {
             terms: self.terms,
             pr: self.pr,
             oldest: self.oldest,
             out: self.out,
             held,
-            interrupt: self.interrupt.copy()?,
+            interrupt,
             ready: self.ready,
             owes: self.owes,
         })
@@ -45,9 +43,23 @@ impl<A: Allocator + Copy> DirectionState<A> {
         other.ready = self.ready;
         other.owes = self.owes;
         other.interrupt = self.interrupt.copy()?;
-        for place in 0..self.held.len() {
-            other.held.push_back_reserved(self.held[place].copy()?);
-        }
-        Ok(())
+        copy_held(&self.held, &mut other.held)
     }
+}
+
+/// Copies the packets that wait into an empty queue, which has room for them.
+fn copy_held<A: Allocator + Copy>(
+    held: &VecDeque<Data<A>, A>,
+    copied: &mut VecDeque<Data<A>, A>,
+) -> Result<(), AllocError>
+    requires empty { copied.old.items ≡ [] }
+    requires space { length held.now.items ≤ deque_capacity copied.old }
+    ensures items { OnOk result (copied.new.items ≡ held.now.items) }
+    ensures few { length copied.new.items ≤ length held.now.items }
+    ensures capacity { deque_capacity copied.old ≤ deque_capacity copied.new }
+{
+    for place in 0..held.len() {
+        copied.push_back_reserved(held[place].copy()?);
+    }
+    Ok(())
 }

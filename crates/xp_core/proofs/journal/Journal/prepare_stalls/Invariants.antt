@@ -13,7 +13,7 @@ invariant-loop-alloc g l = record {
   waiting : l.self-inside.waiting.items ≡ l.fn.self.waiting;
   record_room : vec_len l.self-inside.waiting + l.count ≤ vec_capacity l.self-inside.waiting;
   more : l.fn.self.stalls ≤ vec_len l.self-inside.spares;
-  few : vec_len l.self-inside.spares ≤ l.count;
+  places : vec_len l.self-inside.waiting + vec_len l.self-inside.spares ≤ vec_capacity l.self-inside.waiting;
 }
 
 abbrev pub decreases-loop-alloc : goal.decreases-loop-alloc

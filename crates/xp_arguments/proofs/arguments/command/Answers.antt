@@ -1,0 +1,9 @@
+use Rattle.xp_arguments.specs.Commands.{program}
+use Rattle.xp_arguments.proofs.Shapes.{all_verbs, one_verb}
+use Rattle.xp_arguments.proofs.arguments.command.Goals as goal
+
+pub loop-verb-preserved : goal.loop-verb-preserved
+loop-verb-preserved c = record {
+  shape = one_verb c.loop-verb.command c.in_ok-command.command all_verbs c.loop-verb.verb-index _ program c.loop-verb-test.true c.loop-verb.invariant.shape c.in_ok-command.ensures.shape;
+  local = c.in_ok-command.ensures.local;
+}

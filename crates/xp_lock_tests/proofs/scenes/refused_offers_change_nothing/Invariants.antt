@@ -1,4 +1,0 @@
-use Rattle.xp_lock_tests.proofs.scenes.refused_offers_change_nothing.Given as goal
-
-abbrev pub ghosts-scene : goal.ghosts-scene
-ghosts-scene g a = record { subs = a.prepared.subs; seats = a.prepared.seats; queues = a.prepared.queues }
