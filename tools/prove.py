@@ -1,15 +1,25 @@
 #!/usr/bin/env python3
 """Proves and builds the program xp, and before it the libraries it stands on: side by side where none stands on another.
 
+    tools/prove.py [--keep]
+
 A run of the kit's command rt keeps every other one out of its crate and of all libraries below, so two runs of
 `rt lib` would wait for each other. So this takes the module that rt itself is made of, keeps other runs out of
-all the crates once, and builds each library as `rt lib` does. `rt run` then does the program.
+all the crates once, and builds each library and the program with it.
 
-What a run proved is kept in the crates' folders out/, so a run after one that was cut off goes on from there.
+A crate is proved from nothing, as the gate does it, and what stands on it reads its statements alone. With --keep, and where
+a check by rt has kept work in a crate's out/incremental, all is built as `rt lib` and `rt run` do: from then on
+a check of a crate proves what has changed. That takes longer the first time.
+
+A run after one that was cut off goes on behind the crates that are proved.
 """
 
+import argparse
+import hashlib
 import os
 import queue
+import resource
+import shutil
 import signal
 import subprocess
 import sys
@@ -50,6 +60,12 @@ def lines_of(kit, crate):
     return sum(kit.text_of(it).count("\n") for it in kit.files_of(crate.folder))
 
 
+def processor_minutes():
+    """The processor time of all proofs that have ended."""
+    used = resource.getrusage(resource.RUSAGE_CHILDREN)
+    return (used.ru_utime + used.ru_stime) / 60
+
+
 def longest_chains(lines):
     """Returns for each crate the lines of the longest chain of crates that starts at it, each standing on the one before.
 
@@ -63,15 +79,78 @@ def longest_chains(lines):
     return chains
 
 
+class KeptWork:
+    """Libraries and the program built over what earlier checks kept in out/incremental, as by `rt lib` and `rt run`."""
+
+    def __init__(self, kit):
+        self.kit = kit
+
+    @staticmethod
+    def is_built(crate):
+        return crate.is_built()
+
+    @staticmethod
+    def build(crate, jobs):
+        return crate.build_rlib(["--jobs", str(jobs)], anew=False)
+
+    def build_program(self, crate, jobs):
+        run = [sys.executable, f"{TOP}/tools/kit.py", "run", "--jobs", str(jobs)]
+        words = [*self.kit.guarded(), *run, "--", "check", EXAMPLE]
+        return subprocess.run(words, cwd=crate.folder, stdin=subprocess.DEVNULL, stdout=crate.out, stderr=crate.out).returncode
+
+
+class Statements:
+    """Libraries and the program built from nothing. A library has its statements, and not its checked proofs."""
+
+    def __init__(self, kit):
+        self.kit = kit
+
+    @staticmethod
+    def mark_of(crate):
+        """The file that says what a library was built from. A library that rt builds in its place has none."""
+        return f"{crate.folder}/out/rlib/statements"
+
+    def sum_of(self, crate):
+        """A sum of what a library is built from. It fits only the very libraries that it was built over."""
+        below = [self.kit.text_of(self.mark_of(it)) or "" for it in crate.deps]
+        return hashlib.sha256("\n".join([crate.stamp(), *below]).encode()).hexdigest()
+
+    def is_built(self, crate):
+        return os.path.isdir(crate.rlib) and self.kit.text_of(self.mark_of(crate)) == self.sum_of(crate)
+
+    def build(self, crate, jobs):
+        made_from = self.sum_of(crate)
+        shutil.rmtree(os.path.dirname(crate.rlib), ignore_errors=True)
+        os.makedirs(os.path.dirname(crate.rlib))
+        words = [*crate.words(["--jobs", str(jobs)], keeps=False), "--statements"]
+        status = crate.call(self.kit.RATTLE, "build", *words, "-o", crate.rlib)
+        if status == 0 and made_from == self.sum_of(crate):
+            with open(self.mark_of(crate), "w", encoding="utf-8") as mark:
+                mark.write(made_from)
+        return status
+
+    def build_program(self, crate, jobs):
+        """Proves and compiles the program, links it as `rt run` does, and runs it once."""
+        toolchain = ["--toolchain", f"{self.kit.KIT}/toolchain"]
+        words = [*crate.words(["--jobs", str(jobs)], keeps=False), *toolchain, "--backend", "llvm"]
+        status = crate.call(self.kit.RATTLE, "build", *words, "-o", "out/xp.o")
+        if status:
+            return status
+        parts = ["out/xp.o", *(f"{self.kit.KIT}/c/{it}" for it in ("libos_c.a", "liblibc_c.a"))]
+        words = ["--target", "x86_64-unknown-linux-gnu", *toolchain, "-o", "out/xp", *parts]
+        return crate.call(f"{self.kit.KIT}/bin/rattle-link", *words) or crate.call(f"{crate.folder}/out/xp", "check", EXAMPLE)
+
+
 class Proof:
     """The proof of all crates: which are done, which are running since when, and which are left."""
 
-    def __init__(self, kit):
+    def __init__(self, kit, keeps):
         self.kit = kit
         self.program = kit.Crate(PROGRAM, TOP, {})
         self.at_once = most_at_once(kit)
         # Each crate comes after those that it stands on.
         self.lines = {it: lines_of(kit, it) for it in [*self.program.below(), self.program]}
+        self.way = KeptWork(kit) if keeps or any(it.has_kept() for it in self.lines) else Statements(kit)
         self.chains = longest_chains(self.lines)
         self.left = sorted(self.lines, key=lambda it: -self.chains[it])
         self.done = set()
@@ -102,11 +181,14 @@ class Proof:
                 self.done.add(crate)
                 news = f"{crate.name} took {seconds:.0f} s"
             self.start_what_can_run()
-        self.tell(news)
+        self.tell(f"{news}; {processor_minutes():.0f} processor minutes")
         return failed
 
     def skip_what_is_built(self):
-        self.done = {it for it in self.program.below() if it.is_built()}
+        for crate in self.program.below():
+            # What stands on a library that is built anew is built anew too.
+            if self.done.issuperset(crate.deps) and self.way.is_built(crate):
+                self.done.add(crate)
         self.left = [it for it in self.left if it not in self.done]
 
     def start_what_can_run(self):
@@ -127,19 +209,14 @@ class Proof:
             os.makedirs(f"{crate.folder}/out", exist_ok=True)
             with open(self.log_of(crate), "w", encoding="utf-8", errors="replace") as crate.out:
                 if crate is self.program:
-                    status = self.build_program(crate.out)
+                    # Nothing else runs by now. Where rt builds the program, it keeps other runs out itself.
+                    for it in self.held:
+                        os.close(it)
+                    status = self.way.build_program(crate, jobs)
                 else:
-                    status = crate.build_rlib(["--jobs", str(jobs)], anew=False)
+                    status = self.way.build(crate, jobs)
         finally:
             self.finished.put((crate, status))
-
-    def build_program(self, log):
-        # rt itself keeps other runs out, and nothing else runs by now.
-        for it in self.held:
-            os.close(it)
-        run = [sys.executable, f"{TOP}/tools/kit.py", "run", "--jobs", str(min(JOBS, self.at_once))]
-        words = [*self.kit.guarded(), *run, "--", "check", EXAMPLE]
-        return subprocess.run(words, cwd=PROGRAM, stdin=subprocess.DEVNULL, stdout=log, stderr=log).returncode
 
     def next_finished(self):
         """Waits for a crate to finish, and returns it, its status and how long it took. Says now and then what is running."""
@@ -164,8 +241,11 @@ def show_end(log):
 
 
 def main():
+    parser = argparse.ArgumentParser(description="Proves and builds the program xp, and the libraries it stands on.")
+    parser.add_argument("--keep", action="store_true", help="keep what checks by rt go on from (default: where they have kept something)")
+    keeps = parser.parse_args().keep
     try:
-        proof = Proof(load_kit())
+        proof = Proof(load_kit(), keeps)
         failed = proof.run()
     except KeyboardInterrupt:
         say("stopped; the next run goes on from here")

@@ -1,7 +1,7 @@
 -- What the arguments of a command ask for.
-use Rattle.std.proofs.Common.{◌≡◌, ◌||◌, ◌∙◌, [], cond, refl, sym, ap, subst, codes, option_map, Option, Some, None, IfNone, IfSome, List, ℕ, Bool, nat_eq, slice_index_or}
+use Rattle.std.proofs.Common.{◌≡◌, ◌∙◌, [], cond, refl, sym, ap, subst, codes, option_map, Option, Some, None, IfNone, IfSome, List, ℕ, Bool, nat_eq, slice_index_or}
 use Rattle.clap.specs.Words.{Row, Text, first_of}
-use Rattle.xp_arguments.specs.Commands.{AreDetails, AsksFor, HasDetails, directory_of, either, file_of, HasLimits, HasLive, HasName, HasReplayForm, HasTrace, IsLive, IsNamed, IsOneForm, IsOrder, has_flag, IsQuestion, IsSubcommand, IsTrace, operand_of, verb_of, word_of}
+use Rattle.xp_arguments.specs.Commands.{AreDetails, AsksFor, HasDetails, directory_of, either, file_of, HasLimits, HasLive, HasName, HasReplayForm, HasTrace, IsLive, IsNamed, IsOneForm, IsOrder, has_flag, IsQuestion, IsSubcommand, IsTrace, Suits, operand_of, verb_of, word_of}
 use Rattle.xp_arguments.specs.declared.details_order.DetailsOrder.{DetailsOrder}
 use Rattle.xp_arguments.specs.declared.details_order.DetailsOrder.TheVariants as details_orders
 use Rattle.xp_arguments.specs.declared.subcommand.QuestionOrder.{QuestionOrder}
@@ -150,23 +150,27 @@ module _ (rows : List Row) (words ladder : Bool) (capture : Option Text) (words_
       (subst (λ ladder. IfNone found ((form : ReplayForm) → IsOneForm words ladder (first_of (codes "pcap") rows) form → ⊥)) ladder_is
       (subst (λ capture. IfNone found ((form : ReplayForm) → IsOneForm words ladder capture form → ⊥)) capture_is none))
 
--- the name of the argument that has to be given first behind this word
-abbrev operand_behind : Text → Text
-operand_behind word =
-    cond (nat_eq (slice_index_or word 1 0) 116 || nat_eq (slice_index_or word 2 0) 108) (codes "ADDRESS") (codes "FILE")
+-- the verb of a word, where it has one
+abbrev verb_behind : Text → Verb
+verb_behind word =
+    let first = slice_index_or word 0 0 in
+    let third = slice_index_or word 2 0 in
+    cond (nat_eq third 101) Check
+    (cond (nat_eq third 112) (cond (nat_eq first 114) Replay Explain)
+    (cond (nat_eq third 114) Serve (cond (nat_eq third 97) Status (cond (nat_eq third 111) Stop Reload))))
 
-operand_is : (verb : Verb) → operand_of verb ≡ operand_behind (word_of verb)
-operand_is Check = refl
-operand_is Replay = refl
-operand_is Explain = refl
-operand_is Serve = refl
-operand_is Status = refl
-operand_is Stop = refl
-operand_is Reload = refl
+verb_is : (verb : Verb) → verb ≡ verb_behind (word_of verb)
+verb_is Check = refl
+verb_is Replay = refl
+verb_is Explain = refl
+verb_is Serve = refl
+verb_is Status = refl
+verb_is Stop = refl
+verb_is Reload = refl
 
--- what a command of this word has to be given
-one_operand : (word : Text) (one other : Verb) → word ≡ word_of one → word ≡ word_of other → operand_of one ≡ operand_of other
-one_operand word one other is too = operand_is one ∙ ap operand_behind (sym is ∙ too) ∙ sym (operand_is other)
+-- a word has one verb at most
+one_verb : (word : Text) (one other : Verb) → word ≡ word_of one → word ≡ word_of other → one ≡ other
+one_verb word one other is too = verb_is one ∙ ap verb_behind (sym is ∙ too) ∙ sym (verb_is other)
 
 -- a pair of which both parts are known
 pub pair_is : {X Y : Type 0} (o : Option (X × Y)) (x : X) (y : Y) → option_map (λ pair. pair.0) o ≡ Some x → option_map (λ pair. pair.1) o ≡ Some y → o ≡ Some (x, y)
@@ -191,23 +195,27 @@ module _ (found : Option (Text × List Row)) (word : Text) (rows : List Row) (fo
   rows_alike : (subcommand : Subcommand) (name : List ℕ) (asks : AsksFor found subcommand name) → asks.rows ≡ rows
   rows_alike subcommand name asks = ap rows_in (both subcommand name asks)
 
-  -- a command that is no subcommand
-  pub asks_nothing : ((subcommand : Subcommand) → IsSubcommand word rows subcommand → ⊥) → (subcommand : Subcommand) (name : List ℕ) → AsksFor found subcommand name → ⊥
-  asks_nothing none subcommand name asks =
-      none subcommand
-      (subst (λ rows. IsSubcommand word rows subcommand) (rows_alike subcommand name asks)
-      (subst (λ word. IsSubcommand word asks.rows subcommand) (word_alike subcommand name asks) asks.subcommand_is))
-
   is_here : (subcommand : Subcommand) (name : List ℕ) (asks : AsksFor found subcommand name) → IsSubcommand word rows subcommand
   is_here subcommand name asks =
       subst (λ rows. IsSubcommand word rows subcommand) (rows_alike subcommand name asks)
       (subst (λ word. IsSubcommand word asks.rows subcommand) (word_alike subcommand name asks) asks.subcommand_is)
 
+  -- a command that is no subcommand
+  pub asks_nothing : ((verb : Verb) → word ≡ word_of verb → ⊥) → (subcommand : Subcommand) (name : List ℕ) → AsksFor found subcommand name → ⊥
+  asks_nothing none subcommand name asks = none (verb_of subcommand) (is_here subcommand name asks).0
+
+  -- a command with arguments that do not go together
+  pub asks_wrongly : (own : Verb) → word ≡ word_of own → ((subcommand : Subcommand) → verb_of subcommand ≡ own → Suits rows subcommand → ⊥)
+      → (subcommand : Subcommand) (name : List ℕ) → AsksFor found subcommand name → ⊥
+  asks_wrongly own is none subcommand name asks =
+      let here = is_here subcommand name asks in
+      none subcommand (one_verb word (verb_of subcommand) own here.0 is) here.1
+
   -- a command without its file or address
   pub asks_without : (own : Verb) → word ≡ word_of own → first_of (operand_of own) rows ≡ None
       → (subcommand : Subcommand) (name : List ℕ) → AsksFor found subcommand name → ⊥
   asks_without own is none subcommand name asks =
-      let alike = one_operand word own (verb_of subcommand) is (is_here subcommand name asks).0 in
+      let alike = ap operand_of (one_verb word own (verb_of subcommand) is (is_here subcommand name asks).0) in
       let there : None ≡ Some name =
       sym none ∙ ap (λ operand. first_of operand rows) alike ∙ ap (first_of (operand_of (verb_of subcommand))) (sym (rows_alike subcommand name asks)) ∙ asks.named in
       absurd (cc)

@@ -1,5 +1,5 @@
 -- Commands that get one argument after another, and one subcommand after another.
-use Rattle.std.proofs.Common.{◌≡◌, ◌∙◌, ◌+◌, ◌<◌, ℕ, List, [], ◌∷◌, ap, drop, false, get_or, length, refl, sym, Result, Ok, Err, IfOk}
+use Rattle.std.proofs.Common.{◌≡◌, ◌∙◌, ◌+◌, ◌<◌, ℕ, List, [], ◌∷◌, ap, drop, false, get_or, length, refl, sym}
 use Rattle.std.proofs.lemmas.List.{drop_more}
 use Rattle.clap.specs.Words.{AddsArg, AddsSubcommand, App, app_of, rule_of, with_rule, with_subcommand}
 use Rattle.clap.specs.declared.builder.arg.Arg.{Arg}
@@ -21,13 +21,12 @@ module _ (before after : Command) (arg : Arg) (adds : AddsArg before arg after) 
   pub local_still : (fields_of before).has_globals ≡ false → (fields_of after).has_globals ≡ false
   local_still before_is = adds.globals ∙ rw (before_is, local) refl
 
--- one more subcommand, for which there may be no memory
-pub added : {E : Type 0} (before subcommand : Command) (result : Result Command E) (app : App) → app_of subcommand ≡ app → (fields_of subcommand).has_globals ≡ false
-    → (fields_of before).has_globals ≡ false → IfOk result (AddsSubcommand before subcommand)
-    → IfOk result (λ after. app_of after ≡ with_subcommand (app_of before) app.top) × IfOk result (λ after. (fields_of after).has_globals ≡ false)
-added before subcommand (Ok after) app shape local before_is adds =
+-- one more subcommand
+pub added : (before subcommand after : Command) (app : App) → app_of subcommand ≡ app → (fields_of subcommand).has_globals ≡ false
+    → (fields_of before).has_globals ≡ false → AddsSubcommand before subcommand after
+    → (app_of after ≡ with_subcommand (app_of before) app.top) × ((fields_of after).has_globals ≡ false)
+added before subcommand after app shape local before_is adds =
     (adds.shape local ∙ ap (λ app. with_subcommand (app_of before) app.top) shape, adds.globals ∙ rw (before_is, local) refl)
-added before subcommand (Err error) app shape local before_is adds = (tt, tt)
 
 -- the verbs, in their order
 abbrev pub all_verbs : List Verb

@@ -42,8 +42,9 @@ pub fn console_address(alloc: Global, text: &str) -> Result<Option<SocketAddr>, 
 ///
 /// An allocation failed.
 pub fn no_console_address(alloc: Global, text: &str) -> Result<String, AllocError> {
+    let faulty_port = faulty_port(alloc, text)?;
     let mut told = format!(in alloc; "{text:?} is no ADDRESS:PORT")?;
-    if let Some(port) = faulty_port(alloc, text)? {
+    if let Some(port) = faulty_port {
         write!(told, "\na port from 1 to 65535 is wanted, found {port}")?;
     }
     Ok(told)
@@ -58,9 +59,13 @@ fn faulty_port(alloc: Global, text: &str) -> Result<Option<&str>, AllocError> {
     if port.is_empty() || !port.as_bytes().iter().all(|octet| octet.is_ascii_digit()) {
         return Ok(None);
     }
-    let other = format!(in alloc; "{front}:1")?;
-    let is_address = console_address(alloc, &other)?.is_some();
-    Ok(is_address.then_some(port))
+    Ok(is_before_port(alloc, front)?.then_some(port))
+}
+
+/// Whether the address of a console has this before the colon and the port.
+fn is_before_port(alloc: Global, front: &str) -> Result<bool, AllocError> {
+    let text = format!(in alloc; "{front}:1")?;
+    Ok(console_address(alloc, &text)?.is_some())
 }
 
 /// The address and the port that a text writes in numbers, if it does.

@@ -1,11 +1,11 @@
 //! The words of the command line.
 
-ghost use Rattle.std.specs.Prelude.{◌≡◌, ℕ, List, IfSome, IfNone, IfOk, IfErr, false, map, string_bytes};
+ghost use Rattle.std.specs.Prelude.{◌≡◌, ◌∷◌, [], ℕ, List, IfSome, IfNone, IfOk, IfErr, false, map, string_bytes};
 ghost use Rattle.clap.specs.Words.{HasKind, app_of, kind_of, subcommand_rows_of, with_subcommand};
 ghost use Rattle.clap.specs.declared.error.kind.ErrorKind.TheVariants.{InvalidValue, OutOfMemory};
 ghost use Rattle.clap.specs.declared.builder.command.Command.TheViews.{out-Command as fields_of};
 ghost use Rattle.xp_arguments.specs.Commands.{AreRight, Ask, AsksFor, kinds_of, program};
-ghost use Rattle.xp_arguments.specs.steps.Rows.{bare, command_with};
+ghost use Rattle.xp_arguments.specs.steps.Rows.{AskForOne, bare, command_with};
 
 use crate::misfits::misfit;
 use crate::rows::{arguments_of, help_of};
@@ -32,9 +32,18 @@ impl<'a> Arguments<'a> {
         ensures kind { IfErr result (HasKind (kinds_of (map string_bytes words.now))) }
     {
         let matches = command(alloc)?.try_get_matches_from(words)?;
-        match Arguments::named(alloc, &matches)? {
+        Arguments::found_in(alloc, &matches)
+    }
+
+    /// The subcommand in the words, with its file or address, where they ask for one.
+    fn found_in(alloc: Global, matches: &ArgMatches<'a>) -> Result<Arguments<'a>, Error>
+        ensures asked { IfOk result (λ arguments. AsksFor (subcommand_rows_of matches.now) arguments.subcommand arguments.operand.now) }
+        ensures taken { IfErr result (λ error. AskForOne (subcommand_rows_of matches.now) → kind_of error ≡ OutOfMemory) }
+        ensures kind { IfErr result (HasKind (InvalidValue ∷ [])) }
+    {
+        match Arguments::named(alloc, matches)? {
             Some(arguments) => Ok(arguments),
-            None => Err(unfit(alloc, &matches)?),
+            None => Err(unfit(alloc, matches)?),
         }
     }
 
@@ -50,11 +59,14 @@ impl<'a> Arguments<'a> {
         let Some((word, matches)) = matches.subcommand() else {
             return Ok(None);
         };
-        let Some(subcommand) = Subcommand::named(alloc, word, matches)? else {
+        let Some(verb) = Verb::named(word) else {
             return Ok(None);
         };
-        match matches.get_str(subcommand.verb().operand()) {
-            Some(operand) => Ok(Some(Arguments {
+        let Some(operand) = matches.get_str(verb.operand()) else {
+            return Ok(None);
+        };
+        match Subcommand::of(alloc, verb, matches)? {
+            Some(subcommand) => Ok(Some(Arguments {
                 subcommand,
                 operand,
             })),
@@ -94,7 +106,7 @@ fn command<'a>(alloc: Global) -> Result<Command<'a>, AllocError>
 {
     let mut command = without_subcommands(alloc);
     for verb in &Verb::ALL {
-        command = with_verb(alloc, command, *verb)?;
+        command = command.subcommand(subcommand(alloc, *verb)?)?;
     }
     command.bin_name("xp")
 }
@@ -110,15 +122,6 @@ fn without_subcommands<'a>(alloc: Global) -> Command<'a>
         .after_help(texts::PROGRAM_DETAILS)
         .subcommand_required(true)
         .arg_required_else_help(true)
-}
-
-/// The command line with the subcommand of one more verb.
-fn with_verb<'a>(alloc: Global, command: Command<'a>, verb: Verb) -> Result<Command<'a>, AllocError>
-    requires { (fields_of command).has_globals ≡ false }
-    ensures shape { IfOk result (λ more. app_of more ≡ with_subcommand (app_of command.entry) (command_with verb).top) }
-    ensures local { IfOk result (λ more. (fields_of more).has_globals ≡ false) }
-{
-    command.subcommand(subcommand(alloc, verb)?)
 }
 
 /// The subcommand of a verb, with its arguments and its help.

@@ -2,7 +2,7 @@
 
 ghost use Rattle.std.specs.Prelude.{◌≡◌, ◌≢◌, IfNone, IfOk, IfSome, codes, option_map};
 ghost use Rattle.clap.specs.Words.{found_of, rows_of};
-ghost use Rattle.xp_arguments.specs.Commands.{HasCheckForm, HasDepth, IsCheck, IsQuestion, IsSubcommand, Suits, operand_of, verb_of, word_of};
+ghost use Rattle.xp_arguments.specs.Commands.{HasCheckForm, HasDepth, IsCheck, IsQuestion, Suits, operand_of, verb_of, word_of};
 
 use crate::names::{
     ADDRESS, AFTER, BUSY, CALLER, DIALLED, FACILITIES, FILE, PORTS, SERVE, STATUS, UP, USER, WORDS,
@@ -156,27 +156,12 @@ pub enum Subcommand<'a> {
 }
 
 impl<'a> Subcommand<'a> {
-    /// The subcommand of a word, with its arguments.
+    /// The subcommand of a verb, with its arguments.
     ///
     /// # Errors
     ///
     /// An allocation failed.
-    pub fn named(
-        alloc: Global,
-        word: &str,
-        matches: &ArgMatches<'a>,
-    ) -> Result<Option<Subcommand<'a>>, AllocError>
-        ensures found { IfOk result (λ found. IfSome found (λ subcommand. IsSubcommand word.now (rows_of (found_of matches.now)) subcommand)) }
-        ensures none { IfOk result (λ found. IfNone found ((subcommand : Subcommand) → IsSubcommand word.now (rows_of (found_of matches.now)) subcommand → ⊥)) }
-    {
-        match Verb::named(word) {
-            Some(verb) => Subcommand::with(alloc, verb, matches),
-            None => Ok(None),
-        }
-    }
-
-    /// The subcommand of a verb, with its arguments.
-    fn with(
+    pub(crate) fn of(
         alloc: Global,
         verb: Verb,
         matches: &ArgMatches<'a>,
@@ -184,20 +169,9 @@ impl<'a> Subcommand<'a> {
         ensures found { IfOk result (λ found. IfSome found (λ subcommand. (verb_of subcommand ≡ verb) × Suits (rows_of (found_of matches.now)) subcommand)) }
         ensures none { IfOk result (λ found. IfNone found ((subcommand : Subcommand) → verb_of subcommand ≡ verb → Suits (rows_of (found_of matches.now)) subcommand → ⊥)) }
     {
-        match verb {
-            Verb::Replay => Subcommand::replaying(alloc, matches),
-            _ => Ok(Subcommand::without_replay(verb, matches)),
+        if !matches!(verb, Verb::Replay) {
+            return Ok(Subcommand::without_replay(verb, matches));
         }
-    }
-
-    /// The subcommand that replays a script, with its arguments.
-    fn replaying(
-        alloc: Global,
-        matches: &ArgMatches<'a>,
-    ) -> Result<Option<Subcommand<'a>>, AllocError>
-        ensures found { IfOk result (λ found. IfSome found (λ subcommand. (verb_of subcommand ≡ Verb.Replay) × Suits (rows_of (found_of matches.now)) subcommand)) }
-        ensures none { IfOk result (λ found. IfNone found ((subcommand : Subcommand) → verb_of subcommand ≡ Verb.Replay → Suits (rows_of (found_of matches.now)) subcommand → ⊥)) }
-    {
         match replay_of(alloc, matches)? {
             Some(order) => Ok(Some(Subcommand::Replay(order))),
             None => Ok(None),

@@ -38,7 +38,7 @@ impl Model for Capture {
 }
 
 impl Capture {
-    ghost use Rattle.xp_capture.specs.Capture.{first_flow, flow_of, flows_after, frame_octets};
+    ghost use Rattle.xp_capture.specs.Capture.{first_flow, flows_after, frame_octets};
 
     /// The connections of so many lines, before any octet.
     ///
@@ -71,21 +71,13 @@ impl Capture {
         ensures same { OnErr result (self.new ≡ self.old) }
         ensures lines { length self.new ≡ length self.old }
     {
-        let flow = self.flow(frame.line);
+        let flow = self.flows[usize::from(frame.line)];
         write_segment(out, &frame.segment(flow))?;
         self.flows[usize::from(frame.line)] = flow.after(
             frame.direction,
             frame.octets.len() as u32,
         );
         Ok(())
-    }
-
-    /// The connection of a line.
-    fn flow(&self, line: u16) -> Flow
-        requires { line < length self.now }
-        ensures { result ≡ flow_of self.now line }
-    {
-        self.flows[usize::from(line)]
     }
 }
 

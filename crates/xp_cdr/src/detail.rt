@@ -1,6 +1,6 @@
 //! Call detail records as lines of CSV.
 
-ghost use Rattle.std.specs.Prelude.{◌≡◌, ◌++◌, IfOk, OnErr, OnOk};
+ghost use Rattle.std.specs.Prelude.{◌≡◌, ◌++◌, [], IfOk, OnErr, OnOk};
 ghost use Rattle.csv.specs.Records.{fields_of, partial_of};
 ghost use Rattle.csv.specs.Writing.{default_writer, row_text};
 ghost use Rattle.xp_cdr.specs.Details.{detail_fields, detail_text, header_text};
@@ -47,22 +47,23 @@ pub fn write_detail<A: Allocator>(
     ensures ok { OnOk result (text.new.items ≡ text.old.items ++ detail_text run.now call.now) }
     ensures err { OnErr result (text.new.items ≡ text.old.items) }
 {
-    let row = row_of(alloc, run, call)?;
+    let mut row = ByteRecord::new(alloc);
+    push_fields(&mut row, run, call)?;
     let line = line_of(alloc, &row)?;
     text.extend_from_slice(line.as_slice())
 }
 
-/// The fields of a call detail record.
-fn row_of(alloc: Global, run: &ExchangeRun, call: &EndedCall) -> Result<ByteRecord, AllocError>
-    ensures { IfOk result (λ row. fields_of row ≡ detail_fields run.now call.now) }
+/// Adds the fields of a call detail record to a row that has none.
+fn push_fields(row: &mut ByteRecord, run: &ExchangeRun, call: &EndedCall) -> Result<(), AllocError>
+    requires none { fields_of row.old ≡ [] }
+    requires begun { partial_of row.old ≡ [] }
+    ensures { OnOk result (fields_of row.new ≡ detail_fields run.now call.now) }
 {
-    let mut row = ByteRecord::new(alloc);
-    push_call(&mut row, run.started, call)?;
-    push_charge(&mut row, &call.charging)?;
-    push_moments(&mut row, &call.charging)?;
-    push_end(&mut row, &call.charging)?;
-    push_origin(&mut row, run, call.ended_by)?;
-    Ok(row)
+    push_call(row, run.started, call)?;
+    push_charge(row, &call.charging)?;
+    push_moments(row, &call.charging)?;
+    push_end(row, &call.charging)?;
+    push_origin(row, run, call.ended_by)
 }
 
 /// The fields as a line of CSV. A writer into memory fails for memory alone.

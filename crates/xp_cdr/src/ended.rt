@@ -11,7 +11,7 @@ use xp_packets::Digits;
 use xp_subs::{LineNo, Subs};
 
 /// By what a call ended.
-#[derive(Clone, Copy, Debug, PartialEq, Eq)]
+#[derive(Clone, Copy)]
 pub enum EndedBy {
     /// It was refused, cleared, or ended with its line.
     Call,

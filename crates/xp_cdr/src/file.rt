@@ -24,28 +24,23 @@ use xp_past::Past;
 pub struct DetailFile<R: Files<File = File> + Drop> {
     rt: R,
     path: String,
-    /// The first handle, which holds the lock.
-    locked: File,
-    /// The handle that is written.
-    file: File,
-    /// How long the file was at the last good sync, and how many octets it has taken since.
-    length: u64,
-    more: u64,
+    handles: Handles,
     taken: Past<u8>,
     synced: Past<u8>,
     failures: Past<ErrorKind>,
     ghost front: { StartsWith taken.items synced.items },
 }
 
-/// A file that has just been opened.
+/// The handles of an open file.
 #[derive(Drop)]
-struct Begun {
-    /// The handle that holds the lock.
+struct Handles {
+    /// The first one, which holds the lock.
     locked: File,
-    /// The handle that is written.
+    /// The one that is written.
     file: File,
-    /// How long the file is.
+    /// How long the file was at the last good sync, and how many octets it has taken since.
     length: u64,
+    more: u64,
 }
 
 impl<R: Files<File = File> + Drop> RecordFile for DetailFile<R> {
@@ -76,7 +71,7 @@ impl<R: Files<File = File> + Drop> RecordFile for DetailFile<R> {
     }
 
     fn append(&mut self, octets: &[u8]) -> io::Result<usize> {
-        match self.file.write(octets) {
+        match self.handles.file.write(octets) {
             Ok(0) if !octets.is_empty() => Err(self.failed(io::Error::from(ErrorKind::WriteZero))),
             Ok(count) => {
                 self.took(&octets[..count]);
@@ -87,10 +82,11 @@ impl<R: Files<File = File> + Drop> RecordFile for DetailFile<R> {
     }
 
     fn sync(&mut self) -> io::Result<()> {
-        match self.file.sync_data() {
+        match self.handles.file.sync_data() {
             Ok(()) => {
-                self.length = self.length.saturating_add(self.more);
-                self.more = 0;
+                let handles = &mut self.handles;
+                handles.length = handles.length.saturating_add(handles.more);
+                handles.more = 0;
                 self.synced = self.taken.again();
                 Ok(())
             }
@@ -103,9 +99,10 @@ impl<R: Files<File = File> + Drop> RecordFile for DetailFile<R> {
 
     fn cut_back(&mut self) -> io::Result<()> {
         self.forget();
-        match reopened(&self.rt, self.path.as_str(), &self.locked, self.length) {
+        let Handles { locked, length, .. } = &self.handles;
+        match reopened(&self.rt, self.path.as_str(), locked, *length) {
             Ok(file) => {
-                self.file = file;
+                self.handles.file = file;
                 Ok(())
             }
             Err(error) => Err(self.failed(error)),
@@ -113,10 +110,10 @@ impl<R: Files<File = File> + Drop> RecordFile for DetailFile<R> {
     }
 
     fn follow(&mut self) -> Result<Place, OpenFault> {
-        match begun_anew(&self.rt, self.path.as_str(), &self.locked) {
+        match begun_anew(&self.rt, self.path.as_str(), &self.handles.locked) {
             Ok(None) => Ok(Place::Same),
-            Ok(Some(begun)) => {
-                self.go_on_in(begun);
+            Ok(Some(handles)) => {
+                self.handles = handles;
                 Ok(Place::Begun)
             }
             Err(fault) => Err(self.refused(fault)),
@@ -142,14 +139,12 @@ impl<R: Files<File = File> + Drop> DetailFile<R> {
         ensures synced { IfOk result (λ opened. ⟦<DetailFile<R> as RecordFile>⟧.synced opened.0 ≡ []) }
         ensures failures { IfOk result (λ opened. ⟦<DetailFile<R> as RecordFile>⟧.failures opened.0 ≡ 0) }
     {
-        let (path, begun, opened) = begun_at(alloc, &rt, path)?;
+        let own_path = path.to_string(alloc)?;
+        let (handles, opened) = begin_or_move(alloc, &rt, path)?;
         let file = DetailFile {
             rt,
-            path,
-            locked: begun.locked,
-            file: begun.file,
-            length: begun.length,
-            more: 0,
+            path: own_path,
+            handles,
             taken: Past::new(),
             synced: Past::new(),
             failures: Past::new(),
@@ -178,9 +173,9 @@ impl<R: Files<File = File> + Drop> DetailFile<R> {
     {
         let alloc = *self.path.allocator();
         match begun_in(alloc, &self.rt, directory, name) {
-            Ok((path, begun)) => {
+            Ok((path, handles)) => {
                 self.path = path;
-                self.go_on_in(begun);
+                self.handles = handles;
                 Ok(())
             }
             Err(fault) => Err(self.refused(fault)),
@@ -193,7 +188,7 @@ impl<R: Files<File = File> + Drop> DetailFile<R> {
     ///
     /// What the system tells.
     pub fn reader(&self) -> io::Result<File> {
-        let mut reader = self.locked.try_clone()?;
+        let mut reader = self.handles.locked.try_clone()?;
         reader.seek(SeekFrom::Start(0))?;
         Ok(reader)
     }
@@ -209,9 +204,10 @@ impl<R: Files<File = File> + Drop> DetailFile<R> {
         ensures synced { self.new.synced ≡ self.old.synced }
         ensures failures { self.new.failures ≡ self.old.failures }
     {
-        self.file.write_all(lines)?;
-        self.file.sync_all()?;
-        self.length = self.length.saturating_add(lines.len() as u64);
+        let handles = &mut self.handles;
+        handles.file.write_all(lines)?;
+        handles.file.sync_all()?;
+        handles.length = handles.length.saturating_add(lines.len() as u64);
         Ok(())
     }
 
@@ -221,7 +217,7 @@ impl<R: Files<File = File> + Drop> DetailFile<R> {
         ensures synced { self.new.synced ≡ self.old.synced }
         ensures failures { self.new.failures ≡ self.old.failures }
     {
-        self.more = self.more.saturating_add(octets.len() as u64);
+        self.handles.more = self.handles.more.saturating_add(octets.len() as u64);
         self.taken.extend(octets);
     }
 
@@ -231,21 +227,8 @@ impl<R: Files<File = File> + Drop> DetailFile<R> {
         ensures synced { self.new.synced ≡ self.old.synced }
         ensures failures { self.new.failures ≡ self.old.failures }
     {
-        self.more = 0;
+        self.handles.more = 0;
         self.taken = self.synced.again();
-    }
-
-    /// Goes on in this file, which has just been opened. All that was taken before is on the disk.
-    fn go_on_in(&mut self, begun: Begun)
-        requires { self.old.taken.items ≡ self.old.synced.items }
-        ensures taken { self.new.taken ≡ self.old.taken }
-        ensures synced { self.new.synced ≡ self.old.synced }
-        ensures failures { self.new.failures ≡ self.old.failures }
-    {
-        self.locked = begun.locked;
-        self.file = begun.file;
-        self.length = begun.length;
-        self.more = 0;
     }
 
     /// Notes a failure, and passes it on.
@@ -272,12 +255,8 @@ impl<R: Files<File = File> + Drop> DetailFile<R> {
 
 /// The path of the file of this name in this directory.
 pub fn path_in(alloc: Global, directory: &str, name: &str) -> Result<String, AllocError> {
-    let mut path = directory.to_string(alloc)?;
-    if !directory.ends_with('/') {
-        path.push('/')?;
-    }
-    path.push_str(name)?;
-    Ok(path)
+    let separator = if directory.ends_with('/') { "" } else { "/" };
+    format!(in alloc; "{directory}{separator}{name}")
 }
 
 /// Opens the file of this name in this directory, or makes it, as `begin` does. Returns its path, too.
@@ -286,26 +265,10 @@ fn begun_in<R: Files<File = File>>(
     rt: &R,
     directory: &str,
     name: &str,
-) -> Result<(String, Begun), OpenFault> {
-    let path = path_in(alloc, directory, name).map_err(no_memory)?;
-    let (begun, _) = begin(rt, path.as_str())?;
-    Ok((path, begun))
-}
-
-/// Memory was wanting.
-fn no_memory(_refused: AllocError) -> OpenFault {
-    OpenFault::Open(io::Error::from(ErrorKind::OutOfMemory))
-}
-
-/// Opens the file at this path as `begin_or_move` does. Returns a path of its own, too.
-fn begun_at<R: Files<File = File>>(
-    alloc: Global,
-    rt: &R,
-    path: &str,
-) -> Result<(String, Begun, Opened), OpenFault> {
-    let path = path.to_string(alloc).map_err(no_memory)?;
-    let (begun, opened) = begin_or_move(alloc, rt, path.as_str())?;
-    Ok((path, begun, opened))
+) -> Result<(String, Handles), OpenFault> {
+    let path = path_in(alloc, directory, name)?;
+    let (handles, _) = begin(rt, path.as_str())?;
+    Ok((path, handles))
 }
 
 /// Opens the file at this path as `begin` does. One that lacks the last columns is moved aside, and a new one is begun.
@@ -313,17 +276,17 @@ fn begin_or_move<R: Files<File = File>>(
     alloc: Global,
     rt: &R,
     path: &str,
-) -> Result<(Begun, Opened), OpenFault> {
+) -> Result<(Handles, Opened), OpenFault> {
     match begin(rt, path) {
         Err(OpenFault::OldColumns(last_started)) => {
             move_aside(alloc, rt, path).map_err(OpenFault::Move)?;
-            let (begun, opened) = begin(rt, path)?;
+            let (handles, opened) = begin(rt, path)?;
             let opened = Opened {
                 moved_aside: true,
                 last_started,
                 ..opened
             };
-            Ok((begun, opened))
+            Ok((handles, opened))
         }
         result => result,
     }
@@ -331,8 +294,7 @@ fn begin_or_move<R: Files<File = File>>(
 
 /// Moves the file at this path to where no file lies, beside it.
 fn move_aside<R: Files<File = File>>(alloc: Global, rt: &R, path: &str) -> io::Result<()> {
-    let mut aside = path.to_string(alloc)?;
-    aside.push_str(BEHIND_MOVED)?;
+    let aside = format!(in alloc; "{path}{BEHIND_MOVED}")?;
     if fs::exists(rt, &aside)? {
         return Err(io::Error::from(ErrorKind::AlreadyExists));
     }
@@ -343,16 +305,17 @@ fn move_aside<R: Files<File = File>>(alloc: Global, rt: &R, path: &str) -> io::R
 const BEHIND_MOVED: &str = ".16-columns";
 
 /// Opens the file at this path, or makes it, locks it, and tidies it. Tells how it was found, too.
-fn begin<R: Files<File = File>>(rt: &R, path: &str) -> Result<(Begun, Opened), OpenFault> {
+fn begin<R: Files<File = File>>(rt: &R, path: &str) -> Result<(Handles, Opened), OpenFault> {
     let locked = open_locked(rt, path)?;
     let (opened, length) = tidy(&locked)?;
     let file = locked.try_clone().map_err(OpenFault::Open)?;
-    let begun = Begun {
+    let handles = Handles {
         locked,
         file,
         length,
+        more: 0,
     };
-    Ok((begun, opened))
+    Ok((handles, opened))
 }
 
 /// Begins a new file at this path, or opens the one that lies there, unless that is the locked one.
@@ -360,10 +323,10 @@ fn begun_anew<R: Files<File = File>>(
     rt: &R,
     path: &str,
     locked: &File,
-) -> Result<Option<Begun>, OpenFault> {
+) -> Result<Option<Handles>, OpenFault> {
     if lies_at(rt, path, locked).map_err(OpenFault::Open)? {
         return Ok(None);
     }
-    let (begun, _) = begin(rt, path)?;
-    Ok(Some(begun))
+    let (handles, _) = begin(rt, path)?;
+    Ok(Some(handles))
 }

@@ -5,10 +5,10 @@ ghost use Rattle.xp_cdr.specs.Moments.{moment_text};
 ghost use Rattle.xp_cdr.specs.steps.LastLine.{LastBegins};
 
 use crate::moment::read_moment;
-use crate::torn::read_at;
 use memchr::{memchr, memrchr};
+use std::fs::File;
 use std::io;
-use std::io::{Read, Seek};
+use std::os::unix::fs::FileExt;
 
 /// More octets than a line of a call detail record has.
 const MOST: usize = 4_096;
@@ -19,11 +19,11 @@ const MOST: usize = 4_096;
 /// # Errors
 ///
 /// What the file tells.
-pub fn last_started<S: Read + Seek>(file: &mut S, end: u64) -> io::Result<Option<u64>> {
+pub fn last_started(file: &File, end: u64) -> io::Result<Option<u64>> {
     let mut buffer = [0; MOST];
     let size = end.min(MOST as u64) as usize;
     let piece = &mut buffer[..size];
-    read_at(file, end - size as u64, piece)?;
+    file.read_exact_at(piece, end - size as u64)?;
     Ok(started_in(piece))
 }
 

@@ -1,5 +1,6 @@
 //! How a file of call detail records was found when it was opened, or why it was not opened.
 
+use std::alloc::AllocError;
 use std::io;
 use thiserror::Error;
 
@@ -33,8 +34,15 @@ pub enum OpenFault {
     Write(io::Error),
 }
 
+/// Memory was wanting.
+impl From<AllocError> for OpenFault {
+    fn from(_refused: AllocError) -> OpenFault {
+        OpenFault::Open(io::Error::from(io::ErrorKind::OutOfMemory))
+    }
+}
+
 /// How a file was found when it was opened.
-#[derive(Clone, Copy, Debug, Default, PartialEq, Eq)]
+#[derive(Clone, Copy)]
 pub struct Opened {
     /// Whether the names of the fields had to be written, since the file had no whole line.
     pub is_new: bool,

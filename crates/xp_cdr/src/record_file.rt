@@ -7,7 +7,7 @@ use crate::opening::OpenFault;
 use std::io;
 
 /// Where a file goes on.
-#[derive(Clone, Copy, Debug, PartialEq, Eq)]
+#[derive(Clone, Copy)]
 pub enum Place {
     /// In the file that is open.
     Same,

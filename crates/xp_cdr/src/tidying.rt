@@ -5,10 +5,11 @@ ghost use Rattle.std.specs.Prelude.{◌≤◌, IfOk};
 use crate::detail::{HEADER, OLD_HEADER};
 use crate::last_line::last_started;
 use crate::opening::{OpenFault, Opened};
-use crate::torn::{end_of_lines, read_at};
+use crate::torn::end_of_lines;
 use std::fs::File;
 use std::io;
-use std::io::{Read, Seek, Write};
+use std::io::Write;
+use std::os::unix::fs::FileExt;
 
 /// How a file lies there as it is opened.
 #[derive(Clone, Copy)]
@@ -42,13 +43,13 @@ pub(crate) fn tidy(file: &File) -> Result<(Opened, u64), OpenFault> {
 }
 
 /// Reads how a file lies there.
-fn find(mut file: &File) -> io::Result<Found>
+fn find(file: &File) -> io::Result<Found>
     ensures { IfOk result (λ found. found.end ≤ found.length) }
 {
     let length = file.metadata()?.len();
-    let columns = columns_of(&mut file, length)?;
-    let end = end_of_lines(&mut file, length)?;
-    let last_started = last_started(&mut file, end)?;
+    let columns = columns_of(file, length)?;
+    let end = end_of_lines(file, length)?;
+    let last_started = last_started(file, end)?;
     Ok(Found {
         length,
         columns,
@@ -78,12 +79,12 @@ enum Columns {
 }
 
 /// Which columns a file of this length has, by its first line, or by as many octets of it as it has.
-fn columns_of<S: Read + Seek>(file: &mut S, length: u64) -> io::Result<Columns> {
+fn columns_of(file: &File, length: u64) -> io::Result<Columns> {
     let names = HEADER.as_bytes();
     let mut buffer = [0; HEADER.len()];
     let size = length.min(names.len() as u64) as usize;
     let front = &mut buffer[..size];
-    read_at(file, 0, front)?;
+    file.read_exact_at(front, 0)?;
     if names.starts_with(front) {
         Ok(Columns::These)
     } else if front.starts_with(OLD_HEADER.as_bytes()) {

@@ -4,10 +4,7 @@ use crate::listing::ChangedSubs;
 use crate::refusing::name_in;
 use std::alloc::AllocError;
 use std::fmt::Write;
-use xp_subs::{Access, Line, Subs};
-
-/// What becomes of the call of a line that is given up.
-const CALL_ENDS: &str = "its call ends";
+use xp_subs::{Access, Line, LineNo, Subs};
 
 /// The lines that are gone, and those that are new.
 pub(crate) fn push_lines(
@@ -16,18 +13,20 @@ pub(crate) fn push_lines(
     new: &Subs,
     changes: &ChangedSubs,
 ) -> Result<(), AllocError> {
-    for line in changes.gone_lines.as_slice() {
-        let name = name_in(old, *line);
-        writeln!(text, "line {name}: gone: {CALL_ENDS}")?;
-    }
-    push_new(text, new, changes)
+    push_each(text, old, &changes.gone_lines, "gone: its call ends")?;
+    push_each(text, new, &changes.new_lines, "new")
 }
 
-/// The lines that are new.
-fn push_new(text: &mut String, new: &Subs, changes: &ChangedSubs) -> Result<(), AllocError> {
-    for line in changes.new_lines.as_slice() {
-        let name = name_in(new, *line);
-        writeln!(text, "line {name}: new")?;
+/// What becomes of each of these lines.
+fn push_each(
+    text: &mut String,
+    subs: &Subs,
+    lines: &[LineNo],
+    what: &str,
+) -> Result<(), AllocError> {
+    for line in lines {
+        let name = name_in(subs, *line);
+        writeln!(text, "line {name}: {what}")?;
     }
     Ok(())
 }
@@ -39,14 +38,11 @@ pub(crate) fn push_access(text: &mut String, was: &Line, is: &Line) -> Result<()
     }
     let name = is.name.as_str();
     let (before, after) = (kind_of(&was.access), kind_of(&is.access));
-    write!(text, "line {name}: {before}")?;
-    push_place(text, &was.access)?;
+    write!(text, "line {name}: ")?;
+    push_place(text, before, &was.access)?;
     text.push_str(" becomes ")?;
-    if after != before {
-        text.push_str(after)?;
-    }
-    push_place(text, &is.access)?;
-    writeln!(text, ": {CALL_ENDS}")
+    push_place(text, if after == before { "" } else { after }, &is.access)?;
+    text.push_str(": its call ends\n")
 }
 
 /// Whether a line has a port or a router, in words.
@@ -58,15 +54,15 @@ fn kind_of(access: &Access) -> &'static str {
     }
 }
 
-/// The number of a port, or where a router takes connections.
-fn push_place(text: &mut String, access: &Access) -> Result<(), AllocError> {
+/// The kind of a port or a router, and its number or where it takes connections.
+fn push_place(text: &mut String, kind: &str, access: &Access) -> Result<(), AllocError> {
     match access {
-        Access::Port(port) => write!(text, "{port}"),
+        Access::Port(port) => write!(text, "{kind}{port}"),
         Access::Router(router) => {
             let address = router.address();
             let port = router.port();
-            write!(text, "{address} port {port}")
+            write!(text, "{kind}{address} port {port}")
         }
-        Access::Spare => Ok(()),
+        Access::Spare => text.push_str(kind),
     }
 }

@@ -25,21 +25,21 @@ impl fmt::Display for ChangedSubs {
     /// Such as `3 stations changed, 2 lines new, 1 line gone`.
     fn fmt<W: fmt::Write>(&self, f: &mut fmt::Formatter<W>) -> fmt::Result {
         let parts = [
-            (self.stations.len(), "station", "changed"),
-            (self.new_lines.len(), "line", "new"),
-            (self.gone_lines.len(), "line", "gone"),
+            (self.stations.len(), "station changed", "stations changed"),
+            (self.new_lines.len(), "line new", "lines new"),
+            (self.gone_lines.len(), "line gone", "lines gone"),
         ];
         let mut is_first = true;
-        for (count, noun, what) in &parts {
+        for (count, one, several) in &parts {
             if *count > 0 {
                 let comma = if is_first { "" } else { ", " };
-                let plural = if *count == 1 { "" } else { "s" };
-                write!(f, "{comma}{count} {noun}{plural} {what}")?;
+                let words = if *count == 1 { *one } else { *several };
+                write!(f, "{comma}{count} {words}")?;
                 is_first = false;
             }
         }
         if is_first {
-            f.write_str("nothing changed")?;
+            return f.write_str("nothing changed");
         }
         Ok(())
     }

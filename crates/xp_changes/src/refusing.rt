@@ -4,7 +4,6 @@ ghost use Rattle.std.specs.Prelude.{◌≢◌, OnOk};
 ghost use Rattle.xp_subs.specs.declared.laid.LayFault.TheVariants.{Memory as OutOfMemory};
 
 use std::alloc::{AllocError, Global};
-use std::fmt;
 use xp_reload::FrameChange;
 use xp_subs::{Key, LayFault, LineNo, Subs};
 
@@ -17,7 +16,7 @@ pub fn lay_text(alloc: Global, fault: &LayFault) -> Result<String, AllocError>
     ensures { OnOk result (fault.now ≢ OutOfMemory) }
 {
     match fault {
-        LayFault::Modulus(name) => modulus_text(alloc, name),
+        LayFault::Modulus(name) => modulus_text(alloc, name.as_str()),
         LayFault::Place(name) => format!(in alloc; "no spare place for line {name}"),
         LayFault::Memory => Err(AllocError),
     }
@@ -42,7 +41,7 @@ pub fn frame_text(alloc: Global, old: &Subs, change: FrameChange) -> Result<Stri
 }
 
 /// What is told where the line with this name would get another modulus.
-fn modulus_text<N: fmt::Display + Drop>(alloc: Global, name: N) -> Result<String, AllocError> {
+fn modulus_text(alloc: Global, name: &str) -> Result<String, AllocError> {
     let key = Key::Modulus;
     format!(in alloc; "needs a stop: line {name}: {key}")
 }

@@ -27,7 +27,7 @@ pub struct ToldChanges {
 /// # Errors
 ///
 /// An allocation failed.
-#[tactic(auto, using(crate::proofs::Differing::by_fault, crate::proofs::Differing::by_frame, crate::proofs::Differing::by_none))]
+#[tactic(auto, using(crate::proofs::Differing::by_fault, crate::proofs::Differing::by_frame))]
 pub fn tell_changes(alloc: Global, old: &Subs, new: Subs) -> Result<ToldChanges, AllocError>
     ensures { IfOk result (λ told. (told.needs_stop ≡ false) ↔ MayFollow old.now new) }
 {

@@ -14,7 +14,7 @@ use xp_packets::End;
 pub struct OverLimit;
 
 /// The segments of a call's accepted data packets, at most `limit` in each direction.
-#[derive(Clone, Copy, PartialEq, Eq)]
+#[derive(Clone, Copy)]
 pub struct Meter {
     limit: u32,
     from_caller: u32,

@@ -11,7 +11,7 @@ use xp_packets::{Digits, End};
 use xp_subs::{LineNo, Subs};
 
 /// The charging record of an ended call.
-#[derive(Default, Drop, PartialEq)]
+#[derive(Drop)]
 pub struct Record {
     /// The call's number, from 1.
     pub number: u64,

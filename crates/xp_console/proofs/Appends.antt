@@ -2,8 +2,12 @@
 use Rattle.std.proofs.Common.{◌≡◌, ℕ, List, [], ◌++◌, Result, Ok, Err, OnOk, ap, sym, ◌∙◌, append_assoc, append-nil, if◌then◌else◌, is_ok}
 
 -- a text that was appended, and then another one
+pub both_appended : (first second third one other : List ℕ) → second ≡ first ++ one → third ≡ second ++ other → third ≡ first ++ (one ++ other)
+both_appended first second third one other h k = k ∙ ap (λ t. t ++ other) h ∙ append_assoc first one other
+
+-- the same, where the second was appended if that succeeded
 pub then_appended : {A E : Type 0} (r : Result A E) (first second third one other : List ℕ) → second ≡ first ++ one → OnOk r (third ≡ second ++ other) → OnOk r (third ≡ first ++ (one ++ other))
-then_appended (Ok done) first second third one other h k = k ∙ ap (λ t. t ++ other) h ∙ append_assoc first one other
+then_appended (Ok done) first second third one other h k = both_appended first second third one other h k
 then_appended (Err fault) first second third one other h k = tt
 
 -- six pieces, one behind another

@@ -1,20 +1,20 @@
 -- The status as JSON has no float.
-use Rattle.std.proofs.Common.{◌≡◌, ℕ, false, List, [], ◌∷◌, map, Option, None, Some, refl}
+use Rattle.std.proofs.Common.{◌≡◌, ◌∙◌, ℕ, ap, false, IfOk, Option, None, Some, Result, Ok, Err, refl}
+use Rattle.std.specs.declared.alloc.AllocError.{AllocError}
 use Rattle.std.specs.declared.net.socket_addr.SocketAddr.{SocketAddr}
 use Rattle.serde_json.specs.Data.{Data}
-use Rattle.serde_json.specs.View.{items_of}
-use Rattle.serde_json.specs.Written.{has_float, items_have_float}
-use Rattle.xp_console.specs.Json.{ended_data, line_data, live_data, optional_data, optional_party_data, peer_data, station_data, status_data}
+use Rattle.serde_json.specs.View.{view}
+use Rattle.serde_json.specs.Written.{has_float}
+use Rattle.serde_json.specs.declared.value.Value.{Value}
+use Rattle.xp_console.specs.Json.{ended_data, line_data, live_data, optional_data, optional_party_data, peer_data, reloads_data, station_data, totals_data}
 use Rattle.xp_console.specs.declared.status.EndedCall.{EndedCall}
-use Rattle.xp_console.specs.declared.status.ExchangeStatus.{ExchangeStatus}
 use Rattle.xp_console.specs.declared.status.LineStatus.{LineStatus}
 use Rattle.xp_console.specs.declared.status.LiveCall.{LiveCall}
 use Rattle.xp_console.specs.declared.status.Party.{Party}
+use Rattle.xp_console.specs.declared.status.ReloadCounts.{ReloadCounts}
 use Rattle.xp_console.specs.declared.status.StationCalls.{StationCalls}
-
-items_have_no_float : {X : Type 0} (shown : X → Data) → ((x : X) → has_float (shown x) ≡ false) → (xs : List X) → items_have_float (items_of (map shown xs)) ≡ false
-items_have_no_float shown each [] = refl
-items_have_no_float shown each (x ∷ xs) = rw (each x) (items_have_no_float shown each xs)
+use Rattle.xp_console.specs.declared.status.Totals.{Totals}
+use Rattle.xp_console.specs.steps.Objects.{IsSeenAs}
 
 optional_has_no_float : (count : Option ℕ) → has_float (optional_data count) ≡ false
 optional_has_no_float None = refl
@@ -40,6 +40,13 @@ ended_has_no_float call = rw (party_has_no_float call.called, optional_has_no_fl
 pub station_has_no_float : (station : StationCalls) → has_float (station_data station) ≡ false
 station_has_no_float station = refl
 
-pub status_has_no_float : (status : ExchangeStatus) → has_float (status_data status) ≡ false
-status_has_no_float status =
-    rw (items_have_no_float live_data live_has_no_float status.calls.items, items_have_no_float line_data line_has_no_float status.lines.items, items_have_no_float ended_data ended_has_no_float status.recent.items, items_have_no_float station_data station_has_no_float status.stations.items, optional_has_no_float status.reloads.last) refl
+pub reloads_has_no_float : (reloads : ReloadCounts) → has_float (reloads_data reloads) ≡ false
+reloads_has_no_float reloads = rw (optional_has_no_float reloads.last) refl
+
+pub totals_has_no_float : (totals : Totals) → has_float (totals_data totals) ≡ false
+totals_has_no_float totals = refl
+
+-- a value that stands for data without floats
+pub seen_without_float : (value : Result Value AllocError) (seen : Data) → IsSeenAs value seen → has_float seen ≡ false → IfOk value (λ made. has_float (view made) ≡ false)
+seen_without_float (Ok made) seen is without = ap has_float is ∙ without
+seen_without_float (Err fault) seen is without = tt

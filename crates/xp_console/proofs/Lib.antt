@@ -4,3 +4,4 @@ pub mod Fields
 pub mod Floats
 pub mod Members
 pub mod Removed
+pub mod Young

@@ -1,4 +1,4 @@
 -- The definitions that only the contracts of private functions use. No public contract cites them.
-pub mod Members
+pub mod Clients
 pub mod Objects
 pub mod Responses

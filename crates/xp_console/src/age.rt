@@ -1,4 +1,4 @@
-//! For how long something has been so, and since which time of day.
+//! For how long something has been so.
 
 use std::fmt;
 
@@ -23,18 +23,5 @@ impl fmt::Display for Age {
             write!(f, "{days}d ")?;
         }
         write!(f, "{hours}:{minutes:02}:{seconds:02}")
-    }
-}
-
-/// A moment in seconds since 1970, shown as its time of day (UTC), such as `02:03:07`.
-#[derive(Clone, Copy)]
-pub(crate) struct DayTime(pub u64);
-
-impl fmt::Display for DayTime {
-    fn fmt<W: fmt::Write>(&self, f: &mut fmt::Formatter<W>) -> fmt::Result {
-        let hours = self.0 % DAY / HOUR;
-        let minutes = self.0 % HOUR / MINUTE;
-        let seconds = self.0 % MINUTE;
-        write!(f, "{hours:02}:{minutes:02}:{seconds:02}")
     }
 }

@@ -140,10 +140,10 @@ fn ask<R: Net<Stream = TcpStream> + Clock>(
     fields: &str,
     patience: u64,
 ) -> Result<Reply, AskFault> {
+    let ends = uptime(rt)?.saturating_add(Duration::from_secs(patience));
     let request = format!(in alloc;
         "{target} HTTP/1.1\r\nhost: {address}\r\nconnection: close\r\n{fields}\r\n"
     )?;
-    let ends = uptime(rt)?.saturating_add(Duration::from_secs(patience));
     let text = exchange(rt, alloc, address, request.as_bytes(), ends)?;
     reply_in(alloc, &text)
 }

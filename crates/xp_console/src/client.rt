@@ -2,6 +2,7 @@
 
 ghost use Rattle.std.specs.Prelude.{◌≡◌};
 ghost use Rattle.xp_console.specs.Clients.{IsAnswered};
+ghost use Rattle.xp_console.specs.steps.Clients.{StaysYoung};
 
 use crate::client_stream::ClientStream;
 use http_server::{Config, Connection, Service};
@@ -17,7 +18,7 @@ const MOST_MOVES: u32 = 64;
 const PIECE: usize = 1_024;
 
 /// What became of a connection as it was looked at.
-#[derive(Clone, Copy, PartialEq)]
+#[derive(Clone, Copy)]
 pub(crate) enum Look {
     /// Its peer has nothing more to give or takes nothing more now.
     Waits,
@@ -50,8 +51,23 @@ impl<T: ClientStream> Client<T> {
         }
     }
 
+    /// Moves octets, and answers by the service, as far as that goes without waiting. A connection that has come to its end is over.
+    #[tactic(auto, using(crate::proofs::Young::stays_young))]
+    pub(crate) fn look<S: Service>(&mut self, service: &mut S, moment: u64) -> Look
+        ensures young { StaysYoung result moment self.new.ends }
+        ensures ends { self.new.ends ≡ self.old.ends }
+        ensures answered { IsAnswered S.answers service.old service.new }
+    {
+        let look = self.advance(service);
+        if self.ends <= moment {
+            Look::Over
+        } else {
+            look
+        }
+    }
+
     /// Moves octets, and answers by the service, as far as that goes without waiting.
-    pub(crate) fn look<S: Service>(&mut self, service: &mut S) -> Look
+    fn advance<S: Service>(&mut self, service: &mut S) -> Look
         ensures ends { self.new.ends ≡ self.old.ends }
         ensures answered { IsAnswered S.answers service.old service.new }
     {

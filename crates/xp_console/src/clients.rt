@@ -1,6 +1,6 @@
 //! The connections of the console's clients.
 
-ghost use Rattle.std.specs.Prelude.{◌≡◌, ◌<◌, [], false, remove, IfOk, OnErr, length, slice_index};
+ghost use Rattle.std.specs.Prelude.{◌≡◌, [], IfOk, OnErr, length, map};
 ghost use Rattle.xp_console.specs.Clients.{Admits, IsAnswered, KeepsYoung};
 
 use crate::client::{Client, Look};
@@ -78,54 +78,28 @@ impl<T: ClientStream> Clients<T> {
         ensures kept { KeepsYoung self.old moment self.new }
         ensures answered { IsAnswered S.answers service.old service.new }
     {
-        look_at_all(self, service, moment)
-    }
-
-    fn look_at<S: Service>(&mut self, place: usize, service: &mut S) -> Look
-        requires { place < length self.old }
-        ensures same { self.new ≡ self.old }
-        ensures answered { IsAnswered S.answers service.old service.new }
-    {
-        let client = &mut self.clients[place];
-        client.look(service)
-    }
-
-    /// Whether a connection is over, or has come to its end.
-    fn has_ended(&self, place: usize, look: Look, moment: u64) -> bool
-        requires { place < length self.now }
-        ensures { result ≡ false → moment < slice_index self.now place }
-    {
-        look == Look::Over || self.clients[place].ends <= moment
-    }
-
-    fn close(&mut self, place: usize)
-        requires { place < length self.old }
-        ensures { self.new ≡ remove self.old place }
-    {
-        end(self.clients.remove(place));
+        look_at_all(&mut self.clients, service, moment)
     }
 }
 
-/// Closes a connection.
-fn end<T: ClientStream>(_client: Client<T>) {}
-
 fn look_at_all<T: ClientStream, S: Service>(
-    clients: &mut Clients<T>,
+    clients: &mut Vec<Client<T>>,
     service: &mut S,
     moment: u64,
 ) -> bool
-    ensures kept { KeepsYoung clients.old moment clients.new }
+    ensures kept { KeepsYoung (map (λ client. client.ends) clients.old.items) moment (map (λ client. client.ends) clients.new.items) }
     ensures answered { IsAnswered S.answers service.old service.new }
 {
     let mut more = false;
     let mut place = 0;
-    while place < clients.count() {
-        let look = clients.look_at(place, service);
-        if clients.has_ended(place, look, moment) {
-            clients.close(place);
-        } else {
-            more |= look == Look::Goes;
-            place += 1;
+    while place < clients.len() {
+        match clients[place].look(service, moment) {
+            Look::Over => drop(clients.remove(place)),
+            Look::Waits => place += 1,
+            Look::Goes => {
+                more = true;
+                place += 1;
+            }
         }
     }
     more

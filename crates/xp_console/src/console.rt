@@ -196,12 +196,12 @@ impl Console {
 fn open<R: Net>(rt: &R, address: SocketAddr) -> io::Result<(Poll, TcpListener, SocketAddr)>
     ensures { IfOk result (λ opened. 0 < socket_port address → opened.2 ≡ address) }
 {
-    let poll = Poll::new(rt)?;
     let mut listener = TcpListener::bind(rt, address)?;
     let address = match address.port() {
         0 => listener.local_addr()?,
         _ => address,
     };
+    let poll = Poll::new(rt)?;
     poll.registry()
         .register(&mut listener, ANY, Interest::READABLE)?;
     Ok((poll, listener, address))

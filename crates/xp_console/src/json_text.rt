@@ -1,16 +1,14 @@
 //! JSON that is written piece by piece. Where there are thousands of items, other threads get a turn in between.
 
-ghost use Rattle.std.specs.Prelude.{◌≡◌, ◌++◌, ◌∷◌, [], false, IfOk, map, nat_lt, OnOk, string_bytes};
-ghost use Rattle.serde_json.specs.Data.{array, number, unsigned};
+ghost use Rattle.std.specs.Prelude.{◌≡◌, ◌++◌, false, IfOk, map, nat_lt, OnOk, string_bytes};
 ghost use Rattle.serde_json.specs.View.{items_of, view};
 ghost use Rattle.serde_json.specs.Written.{comma_if, compact_text, has_float, items_text};
-ghost use Rattle.xp_console.specs.steps.Members.{key_text, member_text};
 
 use crate::turns::let_others_run;
 use serde_json::Value;
 use std::alloc::{AllocError, Global};
 
-/// What stands in an array.
+/// What stands in an array, or is a member.
 pub(crate) trait Item {
     ghost use Rattle.std.specs.Prelude.{◌≡◌, false, IfOk};
     ghost use Rattle.serde_json.specs.Data.{Data};
@@ -30,95 +28,42 @@ pub(crate) trait Item {
         ensures no_float { IfOk result (λ value. has_float (view value) ≡ false) };
 }
 
-/// Where a member stands in its object.
-#[derive(Clone, Copy, PartialEq)]
-pub(crate) enum Place {
-    First,
-    /// Behind others.
-    Later,
-}
-
-/// Writes a member whose value is an array of these items.
+/// Writes this text, which begins an array, the items with a comma between any two, and the array's end.
 pub(crate) fn push_array<T: Item>(
     alloc: Global,
     text: &mut String,
-    place: Place,
-    name: &str,
+    before: &str,
     items: &[T],
 ) -> Result<(), AllocError>
-    ensures { OnOk result (string_bytes text.new ≡ string_bytes text.old ++ member_text place name.now (array (items_of (map T.shown items.now)))) }
+    ensures { OnOk result (string_bytes text.new ≡ string_bytes text.old ++ (before.now ++ items_text false (items_of (map T.shown items.now)))) }
 {
-    push_key(alloc, text, place, name)?;
-    text.push_str("[")?;
-    push_items(alloc, text, items)?;
+    text.push_str(before)?;
+    for (number, item) in items.iter().enumerate() {
+        let_others_run(number);
+        push_item(alloc, text, comma_before(number), item)?;
+    }
     text.push_str("]")
 }
 
-/// Writes these items, with a comma between any two.
-fn push_items<T: Item>(alloc: Global, text: &mut String, items: &[T]) -> Result<(), AllocError>
-    ensures { OnOk result (string_bytes text.new ++ 93 ∷ [] ≡ string_bytes text.old ++ items_text false (items_of (map T.shown items.now))) }
+/// What stands before the item of this number, from 0 on.
+fn comma_before(number: usize) -> &'static str
+    ensures { result.now ≡ comma_if (nat_lt 0 number) }
 {
-    for (number, item) in items.iter().enumerate() {
-        let_others_run(number);
-        push_item(alloc, text, number, item)?;
-    }
-    Ok(())
+    if number > 0 { "," } else { "" }
 }
 
-/// Writes the item of this number, from 0 on, behind those before it.
-fn push_item<T: Item>(
+/// Writes this text, and an item behind it.
+pub(crate) fn push_item<T: Item>(
     alloc: Global,
     text: &mut String,
-    number: usize,
+    before: &str,
     item: &T,
 ) -> Result<(), AllocError>
-    ensures { OnOk result (string_bytes text.new ≡ string_bytes text.old ++ (comma_if (nat_lt 0 number) ++ compact_text (T.shown item.now))) }
+    ensures { OnOk result (string_bytes text.new ≡ string_bytes text.old ++ (before.now ++ compact_text (T.shown item.now))) }
 {
-    if number > 0 {
-        text.push_str(",")?;
-    }
+    text.push_str(before)?;
     let value = item.value(alloc)?;
     push_value(alloc, text, &value)
-}
-
-/// Writes a member that is a count or a moment.
-pub(crate) fn push_count(
-    alloc: Global,
-    text: &mut String,
-    place: Place,
-    name: &str,
-    count: u64,
-) -> Result<(), AllocError>
-    ensures { OnOk result (string_bytes text.new ≡ string_bytes text.old ++ member_text place name.now (number (unsigned count))) }
-{
-    push_member(alloc, text, place, name, &Value::from(count))
-}
-
-/// Writes a member.
-pub(crate) fn push_member(
-    alloc: Global,
-    text: &mut String,
-    place: Place,
-    name: &str,
-    value: &Value,
-) -> Result<(), AllocError>
-    requires { has_float (view value.now) ≡ false }
-    ensures { OnOk result (string_bytes text.new ≡ string_bytes text.old ++ member_text place name.now (view value.now)) }
-{
-    push_key(alloc, text, place, name)?;
-    push_value(alloc, text, value)
-}
-
-/// Writes the name of a member, with a comma before it where others stand before, and a colon behind it.
-fn push_key(alloc: Global, text: &mut String, place: Place, name: &str) -> Result<(), AllocError>
-    ensures { OnOk result (string_bytes text.new ≡ string_bytes text.old ++ key_text place name.now) }
-{
-    if place == Place::Later {
-        text.push_str(",")?;
-    }
-    let name = Value::try_from_str(alloc, name)?;
-    push_value(alloc, text, &name)?;
-    text.push_str(":")
 }
 
 /// Writes a value that has no float.

@@ -1,14 +1,14 @@
 //! The counts in Prometheus' text format.
 
-ghost use Rattle.std.specs.Prelude.{◌≡◌, ◌++◌, decimal, flat_map, IfOk, OnOk, string_bytes};
-ghost use Rattle.xp_console.specs.Metrics.{calls_text, count_in, directions_text, events_text, failures_text, head_text, is_same_state, labelled_text, lines_text, live_text, metrics_text, octets_text, records_text, reloads_text, results_text, spare_text, cause_sample, causes_text, refused_text, sample_text, segments_text, single_text, state_sample};
+ghost use Rattle.std.specs.Prelude.{◌≡◌, ◌++◌, decimal, flat_map, OnOk, string_bytes};
+ghost use Rattle.xp_console.specs.Metrics.{calls_text, count_in, directions_text, events_text, failures_text, head_text, is_same_state, labelled_text, lines_text, metrics_text, octets_text, records_text, reloads_text, results_text, spare_text, cause_sample, causes_text, refused_text, sample_text, segments_text, single_text, state_sample};
 
 use crate::refused::RefusedCalls;
 use crate::station_metrics::push_stations;
-use crate::status::{ExchangeStatus, LineState, LineStatus, LiveCall, ReloadCounts, Totals};
+use crate::status::{ExchangeStatus, LineState, LineStatus, ReloadCounts, Totals};
 use crate::words::{cause_text, state_text};
 use itoa::Buffer;
-use std::alloc::{AllocError, Global};
+use std::alloc::AllocError;
 
 const GAUGE: &str = "gauge";
 
@@ -35,24 +35,22 @@ const STATES: [LineState; 6] = [
     LineState::DceClearIndication,
 ];
 
-/// What the exchange counts, in Prometheus' text format 0.0.4.
+/// Writes what the exchange counts, in Prometheus' text format 0.0.4.
 #[tactic(auto, unfolding(crate::specs::Metrics::metrics_text))]
-pub(crate) fn status_metrics(alloc: Global, status: &ExchangeStatus) -> Result<String, AllocError>
-    ensures { IfOk result (λ text. string_bytes text ≡ metrics_text status.now) }
+pub(crate) fn push_metrics(text: &mut String, status: &ExchangeStatus) -> Result<(), AllocError>
+    ensures { OnOk result (string_bytes text.new ≡ string_bytes text.old ++ metrics_text status.now) }
 {
-    let mut text = String::new(alloc);
-    push_lines(&mut text, &status.lines)?;
-    push_spare(&mut text, status.spare_lines)?;
-    push_calls(&mut text, status)?;
-    push_refused(&mut text, &status.totals)?;
-    push_failures(&mut text, &status.totals)?;
-    push_stations(&mut text, &status.stations)?;
-    push_segments(&mut text, &status.totals)?;
-    push_octets(&mut text, &status.totals)?;
-    push_events(&mut text, &status.totals)?;
-    push_records(&mut text, &status.totals)?;
-    push_reloads(&mut text, &status.reloads)?;
-    Ok(text)
+    push_lines(text, &status.lines)?;
+    push_spare(text, status.spare_lines)?;
+    push_calls(text, status)?;
+    push_refused(text, &status.totals)?;
+    push_failures(text, &status.totals)?;
+    push_stations(text, &status.stations)?;
+    push_segments(text, &status.totals)?;
+    push_octets(text, &status.totals)?;
+    push_events(text, &status.totals)?;
+    push_records(text, &status.totals)?;
+    push_reloads(text, &status.reloads)
 }
 
 /// How many lines are in each state.
@@ -120,29 +118,11 @@ fn is_same(one: LineState, other: LineState) -> bool
 fn push_calls(text: &mut String, status: &ExchangeStatus) -> Result<(), AllocError>
     ensures { OnOk result (string_bytes text.new ≡ string_bytes text.old ++ calls_text status.now) }
 {
-    push_live(text, &status.calls)?;
+    let (live, all) = (status.calls.len() as u64, status.totals.calls);
+    let help = "Calls that have not ended.";
+    push_single(text, "gonukire_calls_live", GAUGE, help, live)?;
     let help = "Call requests, with those that were refused.";
-    push_single(
-        text,
-        "gonukire_calls_total",
-        COUNTER,
-        help,
-        status.totals.calls,
-    )
-}
-
-#[tactic(auto, unfolding(crate::specs::Metrics::live_text))]
-fn push_live(text: &mut String, calls: &[LiveCall]) -> Result<(), AllocError>
-    ensures { OnOk result (string_bytes text.new ≡ string_bytes text.old ++ live_text calls.now) }
-{
-    let count = calls.len() as u64;
-    push_single(
-        text,
-        "gonukire_calls_live",
-        GAUGE,
-        "Calls that have not ended.",
-        count,
-    )
+    push_single(text, "gonukire_calls_total", COUNTER, help, all)
 }
 
 /// How many call requests were refused, and how many calls of routers no line took, by the clearing cause.
@@ -179,14 +159,8 @@ fn push_by_cause(
     ensures { OnOk result (string_bytes text.new ≡ string_bytes text.old ++ causes_text name.now help.now refused.now) }
 {
     push_head(text, name, COUNTER, help)?;
-    push_causes(text, name, &refused.by_cause())
-}
-
-/// How many calls were refused with each of these causes.
-fn push_causes(text: &mut String, name: &str, counts: &[(u8, u64)]) -> Result<(), AllocError>
-    ensures { OnOk result (string_bytes text.new ≡ string_bytes text.old ++ flat_map (cause_sample name.now) counts.now) }
-{
-    for count in counts {
+    let counts = refused.by_cause();
+    for count in &counts {
         push_cause(text, name, count.0, count.1)?;
     }
     Ok(())

@@ -3,6 +3,7 @@
 ghost use Rattle.std.specs.Prelude.{◌≡◌, IfOk, string_bytes};
 ghost use Rattle.serde_json.specs.Data.{Data, Members, no_members, number, object, put as with_member, string, unsigned};
 ghost use Rattle.serde_json.specs.View.{members_view, view};
+ghost use Rattle.xp_console.specs.Json.{optional_data};
 ghost use Rattle.xp_console.specs.steps.Objects.{Holds, IsSeenAs};
 
 use serde_json::{Map, Value};
@@ -41,6 +42,16 @@ impl Object {
         ensures { (members : Members) → Holds self members → Holds result (with_member name.now (number (unsigned count)) members) }
     {
         self.with(name, Ok(Value::from(count)))
+    }
+
+    /// The object with one more member, a count or a moment if there is one.
+    pub(crate) fn with_optional(self, name: &str, count: Option<u64>) -> Object
+        ensures { (members : Members) → Holds self members → Holds result (with_member name.now (optional_data count) members) }
+    {
+        match count {
+            Some(count) => self.with_count(name, count),
+            None => self.with(name, Ok(Value::Null)),
+        }
     }
 
     /// The object with one more member, a text.

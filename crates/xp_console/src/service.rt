@@ -1,6 +1,6 @@
 //! The console as a service of HTTP, over a source of the exchange's status.
 
-ghost use Rattle.std.specs.Prelude.{◌≡◌, [], IfOk, OnErr, string_bytes};
+ghost use Rattle.std.specs.Prelude.{◌≡◌, [], IfOk, OnErr, OnOk, string_bytes};
 ghost use Rattle.http.specs.Request.{body_of, head_of};
 ghost use Rattle.http_server.specs.Response.{IsBlank};
 ghost use Rattle.xp_console.specs.Answers.{Grants, IsTextOf, Reloads, Responds, Serves, Shows, Stops, Tells, kind_of as kind_in, lacks_text as text_of_lack};
@@ -10,14 +10,14 @@ ghost use Rattle.xp_console.specs.declared.reload.ReloadAnswer.{ReloadAnswer};
 ghost use Rattle.xp_console.specs.declared.requests.Resource.TheVariants.{Reload, Stop};
 ghost use Rattle.xp_console.specs.declared.status.ExchangeStatus.{ExchangeStatus};
 
-use crate::json::status_json;
-use crate::metrics::status_metrics;
+use crate::json::push_json;
+use crate::metrics::push_metrics;
 use crate::page::page;
 use crate::reload::{ReloadAnswer, tell_reload};
 use crate::requests::{Answer, Format, Resource, answer_to};
 use crate::responses::{Kind, be_unavailable, fill, say, say_allowed};
 use crate::status::ExchangeStatus;
-use crate::table::status_table;
+use crate::table::push_tables;
 use bytes::Bytes;
 use http::{Request, StatusCode};
 use http_server::{Response, Service};
@@ -187,20 +187,27 @@ fn tell(alloc: Global, status: &ExchangeStatus, format: Format, response: &mut R
     requires { IsBlank response.old }
     ensures { Tells format status.now response.new }
 {
-    match text_in(alloc, status, format) {
-        Ok(text) => say(response, StatusCode::OK, kind_of(format), text.as_bytes()),
+    let mut text = String::new(alloc);
+    match push_text(alloc, &mut text, status, format) {
+        Ok(()) => say(response, StatusCode::OK, kind_of(format), text.as_bytes()),
         Err(_) => be_unavailable(response),
     }
 }
 
-/// The status in a format.
-fn text_in(alloc: Global, status: &ExchangeStatus, format: Format) -> Result<String, AllocError>
-    ensures { IfOk result (λ text. IsTextOf format status.now (string_bytes text)) }
+/// Writes the status in a format, as all of the text.
+fn push_text(
+    alloc: Global,
+    text: &mut String,
+    status: &ExchangeStatus,
+    format: Format,
+) -> Result<(), AllocError>
+    requires { string_bytes text.old ≡ [] }
+    ensures { OnOk result (IsTextOf format status.now (string_bytes text.new)) }
 {
     match format {
-        Format::Json => status_json(alloc, status),
-        Format::Text => status_table(alloc, status),
-        Format::Metrics => status_metrics(alloc, status),
+        Format::Json => push_json(alloc, text, status),
+        Format::Text => push_tables(alloc, text, status),
+        Format::Metrics => push_metrics(text, status),
     }
 }
 

@@ -1,7 +1,7 @@
 //! The counts of the stations in Prometheus' text format.
 
-ghost use Rattle.std.specs.Prelude.{◌≡◌, ◌++◌, flat_map, OnOk, string_bytes};
-ghost use Rattle.xp_console.specs.Metrics.{station_calls_sample, station_calls_text, station_direction_text, station_directions_text, station_refusals_sample, station_refusals_text, stations_text};
+ghost use Rattle.std.specs.Prelude.{◌≡◌, ◌++◌, OnOk, string_bytes};
+ghost use Rattle.xp_console.specs.Metrics.{station_calls_sample, station_calls_text, station_direction_text, station_refusals_sample, station_refusals_text, stations_text};
 
 use crate::metrics::{COUNTER, push_all, push_head, push_labelled, push_number};
 use crate::status::StationCalls;
@@ -26,12 +26,6 @@ fn push_calls(text: &mut String, stations: &[StationCalls]) -> Result<(), AllocE
 {
     let help = "Ended calls, by the station that they came from or were offered to.";
     push_head(text, CALLS, COUNTER, help)?;
-    push_calls_of_each(text, stations)
-}
-
-fn push_calls_of_each(text: &mut String, stations: &[StationCalls]) -> Result<(), AllocError>
-    ensures { OnOk result (string_bytes text.new ≡ string_bytes text.old ++ flat_map station_calls_sample stations.now) }
-{
     for (number, station) in stations.iter().enumerate() {
         let_others_run(number);
         push_calls_of(text, station)?;
@@ -40,19 +34,12 @@ fn push_calls_of_each(text: &mut String, stations: &[StationCalls]) -> Result<()
 }
 
 /// How many calls a station had, in each direction.
-#[tactic(auto, unfolding(crate::specs::Metrics::station_calls_sample))]
 fn push_calls_of(text: &mut String, station: &StationCalls) -> Result<(), AllocError>
     ensures { OnOk result (string_bytes text.new ≡ string_bytes text.old ++ station_calls_sample station.now) }
 {
-    push_directions(text, station.address.as_str(), station.from, station.to)
-}
-
-/// How many calls the station with this address had, in each direction.
-fn push_directions(text: &mut String, address: &str, from: u64, to: u64) -> Result<(), AllocError>
-    ensures { OnOk result (string_bytes text.new ≡ string_bytes text.old ++ station_directions_text address.now from to) }
-{
-    push_direction(text, CALLS, address, "from", from)?;
-    push_direction(text, CALLS, address, "to", to)
+    let address = station.address.as_str();
+    push_direction(text, CALLS, address, "from", station.from)?;
+    push_direction(text, CALLS, address, "to", station.to)
 }
 
 /// A sample of a station and a direction. The address is digits, of which none has to be escaped.
@@ -87,12 +74,6 @@ fn push_refusals(text: &mut String, stations: &[StationCalls]) -> Result<(), All
 {
     let help = "Call requests that were refused, by the station that they came from.";
     push_head(text, REFUSALS, COUNTER, help)?;
-    push_refusals_of_each(text, stations)
-}
-
-fn push_refusals_of_each(text: &mut String, stations: &[StationCalls]) -> Result<(), AllocError>
-    ensures { OnOk result (string_bytes text.new ≡ string_bytes text.old ++ flat_map station_refusals_sample stations.now) }
-{
     for (number, station) in stations.iter().enumerate() {
         let_others_run(number);
         push_refusals_of(text, station)?;

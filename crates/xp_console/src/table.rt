@@ -1,6 +1,6 @@
 //! One moment of the exchange as text, for a terminal.
 
-use crate::age::{Age, DAY, DayTime};
+use crate::age::{Age, DAY};
 use crate::status::{EndedCall, ExchangeStatus, LineStatus, LiveCall, Party, Totals};
 use crate::words::state_text;
 use std::alloc::{AllocError, Global};
@@ -9,14 +9,8 @@ use std::fmt::Write;
 /// How many ended calls are told.
 const MOST_ENDED: usize = 10;
 
-/// What the exchange shows of one moment, as tables: the lines, the live calls, the calls that ended last, the totals.
-pub(crate) fn status_table(alloc: Global, status: &ExchangeStatus) -> Result<String, AllocError> {
-    let mut text = String::new(alloc);
-    push_tables(alloc, &mut text, status)?;
-    Ok(text)
-}
-
-fn push_tables(
+/// Writes what the exchange shows of one moment, as tables: the lines, the live calls, the calls that ended last, the totals.
+pub(crate) fn push_tables(
     alloc: Global,
     text: &mut String,
     status: &ExchangeStatus,
@@ -55,7 +49,7 @@ fn push_line(
         write!(text, ", station {}", line.station.as_str())?;
     }
     match line.router_unreachable_since {
-        Some(since) => push_unreachable(text, moment, since),
+        Some(since) => push_unreachable(alloc, text, moment, since),
         None => text.push_str("\n"),
     }
 }
@@ -84,10 +78,16 @@ fn push_age(alloc: Global, text: &mut String, seconds: u64) -> Result<(), AllocE
 }
 
 /// Since when a router has been unreachable, as the time of day (UTC), or for how long, where that is a day or more.
-fn push_unreachable(text: &mut String, moment: u64, since: u64) -> Result<(), AllocError> {
+fn push_unreachable(
+    alloc: Global,
+    text: &mut String,
+    moment: u64,
+    since: u64,
+) -> Result<(), AllocError> {
     let age = moment.saturating_sub(since);
     if age < DAY {
-        writeln!(text, ", router unreachable since {}", DayTime(since))
+        let time = Age(since % DAY).to_string(alloc)?;
+        writeln!(text, ", router unreachable since {:0>8}", time.as_str())
     } else {
         writeln!(text, ", router unreachable for {}", Age(age))
     }
@@ -134,8 +134,8 @@ fn push_ended(alloc: Global, text: &mut String, calls: &[EndedCall]) -> Result<(
     text.push_str(
         "\n  ended caller           called                  for  from caller  from called cause\n",
     )?;
-    for call in calls.iter().rev().take(MOST_ENDED) {
-        push_ended_call(alloc, text, call)?;
+    for later in 0..calls.len().min(MOST_ENDED) {
+        push_ended_call(alloc, text, &calls[calls.len() - 1 - later])?;
     }
     Ok(())
 }
@@ -154,24 +154,27 @@ fn line_of(party: &Option<Party>) -> &str {
     }
 }
 
+/// The totals, each behind its words.
 fn push_totals(text: &mut String, totals: &Totals) -> Result<(), AllocError> {
-    let refused = refused_count(totals);
-    write!(
-        text,
-        "\ncalls {}, refused {refused}, events {}, stalls {}, records waiting {}\n\
-        failed connections to routers {}\n\
-        segments of ended calls from callers {}, from called {}\n\
-        octets received {}, sent {}\n",
-        totals.calls,
-        totals.events,
-        totals.stalls,
-        totals.records_waiting,
-        totals.router_failures,
-        totals.segments_from_callers,
-        totals.segments_from_called,
-        totals.octets_received,
-        totals.octets_sent,
-    )
+    let counts = [
+        ("\ncalls ", totals.calls),
+        (", refused ", refused_count(totals)),
+        (", events ", totals.events),
+        (", stalls ", totals.stalls),
+        (", records waiting ", totals.records_waiting),
+        ("\nfailed connections to routers ", totals.router_failures),
+        (
+            "\nsegments of ended calls from callers ",
+            totals.segments_from_callers,
+        ),
+        (", from called ", totals.segments_from_called),
+        ("\noctets received ", totals.octets_received),
+        (", sent ", totals.octets_sent),
+    ];
+    for (words, count) in &counts {
+        write!(text, "{words}{count}")?;
+    }
+    text.push_str("\n")
 }
 
 fn refused_count(totals: &Totals) -> u64 {

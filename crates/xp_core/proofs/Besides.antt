@@ -1,5 +1,5 @@
 -- A new call is put to one line or to another: all other lines are told the same, and the states are the same but for these.
-use Rattle.std.proofs.Common.{◌≡◌, ◌≢◌, ◌∙◌, ℕ, Bool, true, false, cond, eqb, Option, Some, None, List, [], ◌∷◌, ◌++◌, filter, map, refl, ap, sym, get_or-set_other}
+use Rattle.std.proofs.Common.{arith, ◌≡◌, ◌≢◌, ℕ, Bool, true, false, cond, eqb, Option, Some, None, List, [], ◌∷◌, ◌++◌, filter, map, refl, ap, sym, get_or-set_other}
 use Rattle.std.proofs.lemmas.Bool.{ne_eqb}
 use Rattle.std.specs.Prelude.{option_map}
 use Rattle.xp_answer.specs.declared.setup.Setup.{Setup}
@@ -17,7 +17,7 @@ use Rattle.xp_step.specs.Outcomes.{taken_by, with_line, with_usual_windows}
 use Rattle.xp_step.specs.StepContext.{StepContext}
 use Rattle.xp_step.specs.Table.{CallRequest, request_in}
 use Rattle.xp_machine.specs.Changes.{Begins, Ends, IsFree, all_changed, changed}
-use Rattle.xp_machine.specs.World.{Call, World, call_numbered, call_on, line_at, off_line}
+use Rattle.xp_machine.specs.World.{Call, World, call_numbered, call_on, line_at}
 use Rattle.xp_machine.proofs.Maps.{get_new, get_other}
 use Rattle.xp_core.specs.Determined.{IsSameBesides, without_line}
 use Rattle.xp_core.specs.OutputsPerLine.{to_line}
@@ -62,17 +62,7 @@ module _ {A : Type 0} (at : StepContext A) (what : What A) where
       begun line made = changed (Begins at.line request.identifier line request.block.called made at.moment) now
 
       begun_same : IsSameBesides now.next (Put called setup) (Put called' setup') (begun called setup) (begun called' setup')
-      begun_same = record {
-        lines = λ line neither.
-            let first : line ≢ called = λ is. neither.0 (ap Some (sym is)) in
-            let second : line ≢ called' = λ is. neither.1 (ap Some (sym is)) in
-            get_or-set_other _ called line _ off_line first ∙ sym (get_or-set_other _ called' line _ off_line second);
-        calls = λ old differ. get_other now.calls now.next (call called setup) old differ ∙ sym (get_other now.calls now.next (call called' setup') old differ);
-        new = ap (option_map without_line) (get_new now.calls now.next (call called setup))
-            ∙ ap (λ made. Some (call 0 made)) alike
-            ∙ sym (ap (option_map without_line) (get_new now.calls now.next (call called' setup')));
-        number_after = refl;
-      }
+      begun_same = grind (arith, get_new, get_or-set_other, get_other)
 
     requested : (asked : Option (CallRequest A)) → Same (all_changed (requests at.line at.moment asked (Put called setup)) at.world) (all_changed (requests at.line at.moment asked (Put called' setup')) at.world)
     requested None = unchanged at.world
@@ -85,8 +75,7 @@ module _ {A : Type 0} (at : StepContext A) (what : What A) where
     collided (Some request) (Some found) = begun_same (changed (Ends found.0 found.1 at.line IsFree NUMBER_BUSY CALL_COLLISION) at.world) request
 
     answered : (found : Option (ℕ × Call)) → Same (all_changed (answers at.line found (Put called setup)) at.world) (all_changed (answers at.line found (Put called' setup')) at.world)
-    answered None = unchanged at.world
-    answered (Some found) = unchanged at.world
+    answered found = grind (arith, unchanged)
 
     puts_same : (action : Action) → Same (leads action (Put called setup)) (leads action (Put called' setup'))
     puts_same NewCall = requested (request_in what)
@@ -96,12 +85,7 @@ module _ {A : Type 0} (at : StepContext A) (what : What A) where
 
   -- where no line is taken, none is taken
   untaken : (outcome : Outcome) → taken_by (but_line outcome) ≡ None → taken_by outcome ≡ None
-  untaken (Put called setup) is = absurd (cc)
-  untaken Plain is = refl
-  untaken (Refused why) is = refl
-  untaken (Connected agreement) is = refl
-  untaken (Declined diagnostic) is = refl
-  untaken Exceeded is = refl
+  untaken outcome is = grind arith
 
   abbrev setup_in : Setup → Outcome → Setup
   setup_in other (Put called setup) = setup

@@ -1,5 +1,5 @@
 -- The clear packets among what is put out.
-use Rattle.std.proofs.Common.{◌≡◌, ◌≢◌, ℕ, cond, eqb, Bool, List, [], ◌∷◌, ◌++◌, Option, None, Some, refl, ap, ◌∙◌}
+use Rattle.std.proofs.Common.{arith, ◌≡◌, ◌≢◌, ℕ, cond, eqb, Bool, List, [], ◌∷◌, ◌++◌, Option, None, Some, refl, ap}
 use Rattle.std.proofs.lemmas.Bool.{eq-eqb, ne_eqb}
 use Rattle.xp_answer.specs.ForwardedClear.{ForwardedClear, block_with}
 use Rattle.xp_answer.specs.Information.{information_field}
@@ -12,15 +12,14 @@ use Rattle.xp_packets.specs.declared.packet.Packet.{Packet}
 use Rattle.xp_packets.specs.declared.block.Block.{Block}
 use Rattle.xp_packets.specs.declared.packet.Packet.TheVariants.{Call as CallPacket, Clear}
 use Rattle.xp_step.specs.declared.event.What.{What}
-use Rattle.xp_step.specs.declared.event.What.TheVariants.{Up, Down, Frame, WrongFrame, Expire, Reload, Stall}
 use Rattle.xp_step.specs.declared.output.Output.{Output}
 use Rattle.xp_step.specs.declared.output.Put.TheVariants.{Send}
-use Rattle.xp_step.specs.Acts.{outputs_of_cancel, closed, outputs_to_both, outputs_of_clear, outputs_of_fall}
+use Rattle.xp_step.specs.Acts.{outputs_of_cancel, outputs_to_both, outputs_of_clear, outputs_of_fall}
 use Rattle.xp_machine.specs.Channel.{INITIAL_IDENTIFIER}
 use Rattle.xp_core.specs.Records.{clear_to, clears_to}
 use Rattle.xp_step.specs.StepContext.{StepContext}
 use Rattle.xp_step.specs.Table.{ClearRequest}
-use Rattle.xp_step.specs.EventOutputs.{clear_far, clear_indication, clear_own, confirm_own, far_information, outputs_of, own_information, outputs_of_refusal, send_as, send_far, outputs_of_incoming_call}
+use Rattle.xp_step.specs.EventOutputs.{clear_indication, far_information, outputs_of, outputs_of_refusal, send_far, outputs_of_incoming_call}
 use Rattle.xp_machine.specs.World.{Call, World, call_on, far_end}
 
 module _ {X : Type 0} where
@@ -29,13 +28,11 @@ module _ {X : Type 0} where
 
   -- one to another line before it
   second : (other line : ℕ) (x y : X) → other ≢ line → cond (eqb other line) (x ∷ []) [] ++ (cond (eqb line line) (y ∷ []) [] ++ []) ≡ y ∷ []
-  second other line x y differ =
-      ap (λ b. cond b (x ∷ []) [] ++ (cond (eqb line line) (y ∷ []) [] ++ [])) (ne_eqb other line differ) ∙ mine line y
+  second other line x y differ = grind (arith, mine, ne_eqb)
 
   -- one to another line after it
   first : (line other : ℕ) (x y : X) → other ≢ line → cond (eqb line line) (x ∷ []) [] ++ (cond (eqb other line) (y ∷ []) [] ++ []) ≡ x ∷ []
-  first line other x y differ =
-      ap (λ b. cond (eqb line line) (x ∷ []) [] ++ (cond b (y ∷ []) [] ++ [])) (ne_eqb other line differ) ∙ mine line x
+  first line other x y differ = grind (arith, mine, ne_eqb)
 
 -- the block of a clear indication with charging information
 abbrev pub told_in : {A : Type 0} → Option ChargingInformation → Option (Block A)
@@ -53,29 +50,17 @@ module _ {A : Type 0} (at : StepContext A) (found : ℕ × Call) (is : call_on a
   cleared_by own far = clears_to far_line (own ++ far ++ [])
 
   pub fall_told : (what : What A) → clears_to far_line (outputs_of (outputs_of_fall at what)) ≡ Clear OUT_OF_ORDER (Some NO_ADDITIONAL_INFORMATION) information ∷ []
-  fall_told what = ap (λ call. cleared_by (closed at.world at.line what) (clear_far at call OUT_OF_ORDER NO_ADDITIONAL_INFORMATION)) is ∙ by what where
-    by : (w : What A) → cleared_by (closed at.world at.line w) (clear_far at (Some found) OUT_OF_ORDER NO_ADDITIONAL_INFORMATION) ≡ Clear OUT_OF_ORDER (Some NO_ADDITIONAL_INFORMATION) information ∷ []
-    by Stall = mine far_line (Clear OUT_OF_ORDER (Some NO_ADDITIONAL_INFORMATION) information)
-    by Up = mine far_line (Clear OUT_OF_ORDER (Some NO_ADDITIONAL_INFORMATION) information)
-    by Down = mine far_line (Clear OUT_OF_ORDER (Some NO_ADDITIONAL_INFORMATION) information)
-    by (Frame identifier packet) = mine far_line (Clear OUT_OF_ORDER (Some NO_ADDITIONAL_INFORMATION) information)
-    by (WrongFrame wrong) = mine far_line (Clear OUT_OF_ORDER (Some NO_ADDITIONAL_INFORMATION) information)
-    by Expire = mine far_line (Clear OUT_OF_ORDER (Some NO_ADDITIONAL_INFORMATION) information)
-    by Reload = mine far_line (Clear OUT_OF_ORDER (Some NO_ADDITIONAL_INFORMATION) information)
+  fall_told what = grind (arith, mine)
 
   pub both_told : (near far diagnostic : ℕ) → at.line ≢ far_line → clears_to far_line (outputs_of (outputs_to_both at near far diagnostic)) ≡ Clear far (Some diagnostic) information ∷ []
-  both_told near far diagnostic differ =
-      ap (λ call. cleared_by (clear_own at call near diagnostic ∷ []) (clear_far at call far diagnostic)) is
-      ∙ second at.line far_line (Clear near (Some diagnostic) (told_in (own_information at (Some found)))) (Clear far (Some diagnostic) information) differ
+  both_told near far diagnostic differ = grind arith
 
   -- with its confirmation before it
   pub confirmed_told : (clear : ClearRequest A) (packet : Packet A)
       (carried : ForwardedClear found.1.setup.fast clear.cause clear.diagnostic clear.block (far_information at (Some found)) packet)
       → clears_to far_line (outputs_of (outputs_of_clear at (Some found) (send_far at.world at.line (Some found) packet)))
       ≡ Clear (indicated_cause clear.cause) (Some (indicated_diagnostic clear.diagnostic)) (block_with carried.field carried.user) ∷ []
-  confirmed_told clear packet carried =
-      ap (λ p. cleared_by (confirm_own at (Some found) ∷ []) (send_far at.world at.line (Some found) p)) carried.whole
-      ∙ mine far_line (Clear (indicated_cause clear.cause) (Some (indicated_diagnostic clear.diagnostic)) (block_with carried.field carried.user))
+  confirmed_told clear packet carried = grind (arith, mine)
 
 module _ {A : Type 0} (world : World) (line : ℕ) (found : ℕ × Call) (is : call_on world line ≡ Some found) where
   -- ---- a collision: the caller of the cancelled call, and the colliding line
@@ -89,22 +74,15 @@ module _ {A : Type 0} (world : World) (line : ℕ) (found : ℕ × Call) (is : c
 
   pub collision_refused : (identifier : ℕ) (why : Refusal) → line ≢ far_end found.1 line
       → clears_to {A = A} (far_end found.1 line) (outputs_of (outputs_of_refusal world (outputs_of_cancel world line) line identifier why)) ≡ Clear NUMBER_BUSY (Some CALL_COLLISION) None ∷ []
-  collision_refused identifier why differ =
-      ap (far_by (send_as world line identifier (clear_indication why.cause why.diagnostic) ∷ []) []) is
-      ∙ second line (far_end found.1 line) (Clear why.cause (Some why.diagnostic) None) (Clear NUMBER_BUSY (Some CALL_COLLISION) None) differ
+  collision_refused identifier why differ = grind arith
 
   pub collision_turned_down : (identifier : ℕ) (why : Refusal) → far_end found.1 line ≢ line
       → clears_to {A = A} line (outputs_of (outputs_of_refusal world (outputs_of_cancel world line) line identifier why)) ≡ Clear why.cause (Some why.diagnostic) None ∷ []
-  collision_turned_down identifier why differ =
-      ap (λ call. clears_to line (send_as world line identifier (clear_indication why.cause why.diagnostic) ∷ [] ++ send_far world line call indication ++ [])) is
-      ∙ first line (far_end found.1 line) (Clear why.cause (Some why.diagnostic) None) (Clear NUMBER_BUSY (Some CALL_COLLISION) None) differ
+  collision_turned_down identifier why differ = grind arith
 
   pub collision_taken : (called : ℕ) (packet : Packet A) → clear_to (far_end found.1 line) called (Send INITIAL_IDENTIFIER packet) ≡ []
       → clears_to {A = A} (far_end found.1 line) (outputs_of (outputs_of_incoming_call world (outputs_of_cancel world line) called packet)) ≡ Clear NUMBER_BUSY (Some CALL_COLLISION) None ∷ []
-  collision_taken called packet none =
-      ap (far_by [] (send_as world called INITIAL_IDENTIFIER packet ∷ [])) is
-      ∙ ap (λ more. cond (eqb (far_end found.1 line) (far_end found.1 line)) (Clear NUMBER_BUSY (Some CALL_COLLISION) None ∷ []) [] ++ (more ++ [])) none
-      ∙ mine (far_end found.1 line) (Clear NUMBER_BUSY (Some CALL_COLLISION) None)
+  collision_taken called packet none = grind (arith, mine)
 
 pub turned_down : {A : Type 0} (world : World) (line identifier : ℕ) (why : Refusal)
     → clears_to {A = A} line (outputs_of (outputs_of_refusal world [] line identifier why)) ≡ Clear why.cause (Some why.diagnostic) None ∷ []

@@ -1,6 +1,6 @@
 -- What connected calls accept is delivered.
-use Rattle.std.proofs.Common.{◌≡◌, ℕ, Option, Some, IfSome, List, subst, sym}
-use Rattle.xp_answer.specs.Terms.{AreSettled, AreTerms}
+use Rattle.std.proofs.Common.{arith, ◌≡◌, ℕ, Some, List, subst, sym}
+use Rattle.xp_answer.specs.Terms.{AreTerms}
 use Rattle.xp_packets.specs.declared.modulus.Modulus.{Modulus}
 use Rattle.xp_relay.proofs.Observations.{everything_is_delivered, interrupts_are_delivered, senders_are_told}
 use Rattle.xp_relay.specs.Observed.{AreInterruptsDelivered, IsDelivered, IsTold}
@@ -21,9 +21,7 @@ use Rattle.xp_machine.proofs.Terms.{terms_within}
 
 -- the terms of a connected call
 agreed_terms : (modulus : Modulus) (call : Call) (agreement : Agreement) → call.agreed ≡ Some agreement → HasTerms modulus call → AreTerms modulus agreement.terms
-agreed_terms modulus call agreement is has =
-    let P : Option Agreement → Type 0 = λ a. IfSome a (λ agreed. AreSettled modulus call.setup.indicated agreed.terms) in
-    (subst P is has.agreed).sizes
+agreed_terms modulus call agreement is has = grind arith
 
 -- its relay can be set up
 pub relay_within : (tables : Tables) (world : World) (number : ℕ) (call : Call) (agreement : Agreement) → AllHaveTerms tables world → call_numbered world number ≡ Some call

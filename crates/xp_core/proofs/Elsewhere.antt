@@ -1,15 +1,12 @@
 -- An event of a line that is not in a call puts nothing out to the lines of that call.
-use Rattle.std.proofs.Common.{◌≡◌, ◌≢◌, ◌∙◌, ℕ, eqb, cond, Bool, true, false, Option, Some, None, List, [], ◌∷◌, ◌++◌, map, refl, ap, sym, subst, inl, inr}
+use Rattle.std.proofs.Common.{arith, ◌≡◌, ◌∙◌, ℕ, eqb, Bool, true, false, Option, Some, None, List, [], ◌∷◌, ◌++◌, map, refl, ap, sym, subst, inl, inr}
 use Rattle.std.proofs.lemmas.Bool.{cond_both, cond-false, ne_eqb}
 use Rattle.std.proofs.lemmas.List.Concat.{flat_map-append}
 use Rattle.std.specs.List.{AllByRecursion}
-use Rattle.xp_answer.specs.Information.{cleared_with}
-use Rattle.xp_causes.specs.declared.clearing_cause.TheConstants.{LOCAL_PROCEDURE_ERROR, NETWORK_CONGESTION, NUMBER_BUSY, OUT_OF_ORDER, REMOTE_PROCEDURE_ERROR}
-use Rattle.xp_causes.specs.declared.diagnostic.TheConstants.{CALL_COLLISION, NO_ADDITIONAL_INFORMATION, TIMER_EXPIRED_FOR_INCOMING_CALL}
+use Rattle.xp_causes.specs.declared.clearing_cause.TheConstants.{LOCAL_PROCEDURE_ERROR, NETWORK_CONGESTION, REMOTE_PROCEDURE_ERROR}
+use Rattle.xp_causes.specs.declared.diagnostic.TheConstants.{NO_ADDITIONAL_INFORMATION}
 use Rattle.xp_channel.specs.declared.action.Action.{Action}
-use Rattle.xp_channel.specs.declared.action.Action.TheVariants.{Nothing, Rise, Fall, NewCall, Collision, Answer, Confirm, Free, Error, Relayed, Expired}
 use Rattle.xp_packets.specs.declared.end.End.{End}
-use Rattle.xp_packets.specs.declared.end.End.TheVariants.{Caller, Called}
 use Rattle.xp_packets.specs.declared.packet.Packet.{Packet}
 use Rattle.xp_relay.specs.declared.moves.Move.{Move}
 use Rattle.xp_step.specs.declared.event.What.{What}
@@ -17,13 +14,13 @@ use Rattle.xp_step.specs.declared.event.What.TheVariants as events
 use Rattle.xp_step.specs.declared.outcome.Outcome.{Outcome}
 use Rattle.xp_step.specs.declared.outcome.Outcome.TheVariants.{Plain, Put, Refused, Connected, Declined, Exceeded}
 use Rattle.xp_step.specs.declared.output.Output.{Output}
-use Rattle.xp_step.specs.Acts.{Acts, Answers, CarriesAs, Confirms, IsAnswered, IsPlain, IsRequested, Requests, outputs_of_cancel, closed, outputs_to_both, outputs_of_fall}
+use Rattle.xp_step.specs.Acts.{Acts, Answers, CarriesAs, Confirms, IsAnswered, IsPlain, IsRequested, Requests, closed, outputs_to_both}
 use Rattle.xp_step.specs.RelayedPackets.{RelayedPacket, relayed_by, turn_of_relayed}
 use Rattle.xp_step.specs.StepContext.{StepContext}
-use Rattle.xp_step.specs.Table.{CallAccepted, CallRequest, ClearRequest, accepted_in, clear_in, packet_in, request_in}
-use Rattle.xp_step.specs.EventOutputs.{EventOutputs, outputs_of_relayed, clear_indication, far_information, no_outputs, outputs_of, send_far, send_on}
+use Rattle.xp_step.specs.Table.{CallAccepted, CallRequest, ClearRequest, packet_in}
+use Rattle.xp_step.specs.EventOutputs.{EventOutputs, outputs_of_relayed, no_outputs, outputs_of, send_far, send_on}
 use Rattle.xp_machine.specs.CallEnds.{line_at_end}
-use Rattle.xp_machine.specs.Channel.{Ready, call_of}
+use Rattle.xp_machine.specs.Channel.{call_of}
 use Rattle.xp_machine.specs.Coupling.{AreCoupled, IsEnd, IsHeld}
 use Rattle.xp_machine.specs.World.{Call, call_on, far_end, state_at}
 use Rattle.xp_core.specs.Delivered.{end_at, move_to, put_out_to}
@@ -35,8 +32,7 @@ far_is_end : (call : Call) (line : ℕ) → IsEnd call (far_end call line)
 far_is_end call line = cond_both (eqb call.caller line) call.called call.caller (λ other. IsEnd call other) (λ _. inr refl) (λ _. inl refl)
 
 line_is_end : (call : Call) (end : End) → IsEnd call (line_at_end call end)
-line_is_end call Caller = inl refl
-line_is_end call Called = inr refl
+line_is_end call end = grind arith
 
 module _ {A : Type 0} (at : StepContext A) (what : What A) (coupled : AreCoupled at.tables at.world) (number : ℕ)
     (outside : call_of (state_at at.world at.line) ≡ Some number → ⊥) where
@@ -56,21 +52,13 @@ module _ {A : Type 0} (at : StepContext A) (what : What A) (coupled : AreCoupled
 
   -- both lines of the call that the line of the event is in show its number
   end_shows : (found : ℕ × Call) → call_on at.world at.line ≡ Some found → (line : ℕ) → IsEnd found.1 line → call_of (state_at at.world line) ≡ Some found.0
-  end_shows found is line end =
-      let held : IsHeld at.tables at.world found.0 found.1 = coupled.held found.0 found.1 (shown_on at.world at.line found is).1 in
-      elim end [
-        | inl caller ↦ ap (λ other. call_of (state_at at.world other)) caller ∙ caller_shows at.tables at.world found.0 found.1 held
-        | inr called ↦ ap (λ other. call_of (state_at at.world other)) called ∙ called_shows at.tables at.world found.0 found.1 held
-      ]
+  end_shows found is line end = grind (arith, called_shows, caller_shows, shown_on)
 
   to_end : (found : ℕ × Call) → call_on at.world at.line ≡ Some found → (line : ℕ) → IsEnd found.1 line → call_of (state_at at.world line) ≡ Some number → ⊥
-  to_end found is line end shows =
-      let both : Some found.0 ≡ Some number = sym (end_shows found is line end) ∙ shows in
-      outside ((shown_on at.world at.line found is).0 ∙ both)
+  to_end found is line end shows = grind (arith, end_shows, shown_on)
 
   off_far : (found : Option (ℕ × Call)) → call_on at.world at.line ≡ found → (packet : Packet A) → AreOff (send_far at.world at.line found packet)
-  off_far None is packet = tt
-  off_far (Some found) is packet = (to_end found is (far_end found.1 at.line) (far_is_end found.1 at.line), tt)
+  off_far found is packet = grind (arith, far_is_end, to_end)
 
   off_closed : (event : What A) → AreOff (closed at.world at.line event)
   off_closed events.Stall = (outside, tt)
@@ -89,37 +77,18 @@ module _ {A : Type 0} (at : StepContext A) (what : What A) (coupled : AreCoupled
 
   request_off : (far : List (Output A)) (request : CallRequest A) (outcome : Outcome) (told : EventOutputs A) → AreOff far
       → IsRequested at.force at.world at.line far request outcome told → AllOff told
-  request_off far request (Put called setup) told off is =
-      these _ told is.told_is (record { carried = tt; own = tt; far = off; taken = (rings, tt) })
-    where
-      rings : call_of (state_at at.world called) ≡ Some number → ⊥
-      rings shows =
-          let ready : state_at at.world is.ring.line ≡ Ready = (taken_ready at.force at.world at.line request.block is.ring is.decided).ready in
-          let none : call_of (state_at at.world called) ≡ None = ap (λ line. call_of (state_at at.world line)) is.called_is ∙ ap call_of ready in
-          absurd (cc)
-  request_off far request (Refused why) told off is = these _ told is.told_is (record { carried = tt; own = (outside, tt); far = off; taken = tt })
-  request_off far request Plain told off is = absurd is
-  request_off far request (Connected agreement) told off is = absurd is
-  request_off far request (Declined diagnostic) told off is = absurd is
-  request_off far request Exceeded told off is = absurd is
+  request_off far request outcome told off is = grind (arith, taken_ready, these)
 
   requests_off : (far : List (Output A)) (asked : Option (CallRequest A)) (outcome : Outcome) (told : EventOutputs A) → AreOff far
       → Requests at.force at.world at.line far asked outcome told → AllOff told
-  requests_off far None outcome told off is = none_off outcome told is
-  requests_off far (Some request) outcome told off is = request_off far request outcome told off is
+  requests_off far asked outcome told off is = grind (arith, none_off, request_off)
 
   both_off : (near far diagnostic : ℕ) (told : EventOutputs A) → told ≡ outputs_to_both at near far diagnostic → AllOff told
-  both_off near far diagnostic told is = these (outputs_to_both at near far diagnostic) told is (record {
-    carried = tt;
-    own = (outside, tt);
-    far = off_far (call_on at.world at.line) refl (cleared_with far diagnostic (far_information at (call_on at.world at.line)));
-    taken = tt;
-  })
+  both_off near far diagnostic told is = grind (arith, off_far, these)
 
   answer_off : (answer : CallAccepted A) (found : ℕ × Call) → call_on at.world at.line ≡ Some found → (outcome : Outcome) (told : EventOutputs A)
       → IsAnswered at answer found.1 outcome told → AllOff told
-  answer_off answer found on (Connected agreement) told is =
-      these _ told is.told_is (record { carried = tt; own = tt; far = (to_end found on found.1.caller (inl refl), tt); taken = tt })
+  answer_off answer found on (Connected agreement) told is = grind (arith, these, to_end)
   answer_off answer found on (Declined diagnostic) told is = both_off LOCAL_PROCEDURE_ERROR REMOTE_PROCEDURE_ERROR diagnostic told is.told_is
   answer_off answer found on Plain told is = absurd is
   answer_off answer found on (Put called setup) told is = absurd is
@@ -136,8 +105,7 @@ module _ {A : Type 0} (at : StepContext A) (what : What A) (coupled : AreCoupled
       → Confirms at clear found outcome told → AllOff told
   confirms_off None found on outcome told is = none_off outcome told is
   confirms_off (Some clear) None on outcome told is = these _ told is.1 (record { carried = tt; own = (outside, tt); far = tt; taken = tt })
-  confirms_off (Some clear) (Some found) on outcome told is =
-      these _ told is.told_is (record { carried = tt; own = (outside, tt); far = off_far (Some found) on is.packet; taken = tt })
+  confirms_off (Some clear) (Some found) on outcome told is = grind (arith, off_far, these)
 
   moves_off : (found : ℕ × Call) → call_on at.world at.line ≡ Some found → (moves : List (Move A)) → AreOff (map (send_on at.world found.1) moves)
   moves_off found on [] = tt
@@ -156,33 +124,13 @@ module _ {A : Type 0} (at : StepContext A) (what : What A) (coupled : AreCoupled
   carries_off carried by true outcome told acts = both_off NETWORK_CONGESTION NETWORK_CONGESTION NO_ADDITIONAL_INFORMATION told acts.1
 
   pub all_off : (action : Action) (outcome : Outcome) (told : EventOutputs A) → Acts at what action outcome told → AllOff told
-  all_off Nothing outcome told acts = none_off outcome told acts
-  all_off Rise outcome told acts = none_off outcome told acts
-  all_off Fall outcome told acts = these (outputs_of_fall at what) told acts.1 (record {
-    carried = tt;
-    own = off_closed what;
-    far = off_far (call_on at.world at.line) refl (cleared_with OUT_OF_ORDER NO_ADDITIONAL_INFORMATION (far_information at (call_on at.world at.line)));
-    taken = tt;
-  })
-  all_off NewCall outcome told acts = requests_off [] (request_in what) outcome told tt acts
-  all_off Collision outcome told acts = requests_off (outputs_of_cancel at.world at.line) (request_in what) outcome told
-      (off_far (call_on at.world at.line) refl (clear_indication NUMBER_BUSY CALL_COLLISION)) acts
-  all_off Answer outcome told acts = answers_off (accepted_in what) (call_on at.world at.line) refl outcome told acts
-  all_off Confirm outcome told acts = confirms_off (clear_in what) (call_on at.world at.line) refl outcome told acts
-  all_off Free outcome told acts = none_off outcome told acts
-  all_off (Error diagnostic) outcome told acts = both_off LOCAL_PROCEDURE_ERROR REMOTE_PROCEDURE_ERROR diagnostic told acts.1
-  all_off Relayed outcome told acts = carries_off (relayed_by at.line (call_on at.world at.line) (packet_in what)) refl _ outcome told acts
-  all_off Expired outcome told acts = both_off LOCAL_PROCEDURE_ERROR REMOTE_PROCEDURE_ERROR TIMER_EXPIRED_FOR_INCOMING_CALL told acts.1
+  all_off action outcome told acts = grind (arith, answers_off, both_off, carries_off, confirms_off, none_off, off_closed, off_far, requests_off, these)
 
   -- ---- so the lines of the call are put out nothing
 
   module _ (call : Call) (held : IsHeld at.tables at.world number call) where
     no_end : (line : ℕ) → (call_of (state_at at.world line) ≡ Some number → ⊥) → end_at call line ≡ None
-    no_end line off =
-        let caller : call.caller ≢ line = λ is. off (ap (λ other. call_of (state_at at.world other)) (sym is) ∙ caller_shows at.tables at.world number call held) in
-        let called : call.called ≢ line = λ is. off (ap (λ other. call_of (state_at at.world other)) (sym is) ∙ called_shows at.tables at.world number call held) in
-        cond-false (eqb call.caller line) (Some Caller) (cond (eqb call.called line) (Some Called) None) (ne_eqb call.caller line caller)
-        ∙ cond-false (eqb call.called line) (Some Called) None (ne_eqb call.called line called)
+    no_end line off = grind (arith, called_shows, caller_shows, cond-false, ne_eqb)
 
     unheard : (outputs : List (Output A)) → AreOff outputs → put_out_to call outputs ≡ []
     unheard [] off = refl
@@ -191,15 +139,7 @@ module _ {A : Type 0} (at : StepContext A) (what : What A) (coupled : AreCoupled
 
     -- nothing comes from them either
     pub nothing_put_out : (told : EventOutputs A) → AllOff told → put_out_to call (outputs_of told) ≡ []
-    nothing_put_out told off =
-        let f : Output A → List (Move A) = λ output. move_to (end_at call output.line) output.outgoing.put in
-        flat_map-append f ((told.carried ++ told.own) ++ told.far) told.taken
-        ∙ ap (λ ms. ms ++ put_out_to call told.taken) (flat_map-append f (told.carried ++ told.own) told.far)
-        ∙ ap (λ ms. (ms ++ put_out_to call told.far) ++ put_out_to call told.taken) (flat_map-append f told.carried told.own)
-        ∙ ap (λ ms. ((ms ++ put_out_to call told.own) ++ put_out_to call told.far) ++ put_out_to call told.taken) (unheard told.carried off.carried)
-        ∙ ap (λ ms. (ms ++ put_out_to call told.far) ++ put_out_to call told.taken) (unheard told.own off.own)
-        ∙ ap (λ ms. ms ++ put_out_to call told.taken) (unheard told.far off.far)
-        ∙ unheard told.taken off.taken
+    nothing_put_out told off = grind (arith, flat_map-append, unheard)
 
     pub no_end_here : end_at call at.line ≡ None
     no_end_here = no_end at.line outside

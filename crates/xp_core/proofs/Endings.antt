@@ -1,5 +1,5 @@
 -- There is one record for each call that ended.
-use Rattle.std.proofs.Common.{◌≡◌, ℕ, ◌+◌, ◌≤◌, ◌<◌, append-nil, cond, is_some, Option, Some, None, List, [], ◌∷◌, ◌++◌, All, length, refl, ap, sym, subst, ◌∙◌, inl, inr, arith}
+use Rattle.std.proofs.Common.{◌≡◌, ℕ, ◌+◌, ◌≤◌, ◌<◌, append-nil, Option, Some, None, List, [], ◌∷◌, ◌++◌, All, length, refl, ap, sym, subst, ◌∙◌, inl, inr, arith}
 use Rattle.std.proofs.lemmas.Bool.{cases_lt}
 use Rattle.std.proofs.lemmas.List.Elements.{All-nil, All-cons, All-same}
 use Rattle.xp_causes.specs.declared.clearing_cause.TheConstants.{NUMBER_BUSY}
@@ -32,10 +32,7 @@ use Rattle.xp_core.proofs.Sounds.{IsRight, cancel_right, run_right, shape_of}
 
 -- a number that is not yet given is no live call's
 none_of : (world : World) (number : ℕ) → (IsLive world number → ⊥) → live_of world number ≡ 0
-none_of world number gone = elim (call_numbered world number) as (λ found. call_numbered world number ≡ found → live_of world number ≡ 0) [
-  | None ↦ λ is. live_none world number is
-  | Some call ↦ λ is. absurd (gone (call, is))
-] refl
+none_of world number gone = grind (arith, live_none, live_of)
 
 module _ {A : Type 0} where
   module _ (tables : Tables) (history : List (Entry A)) (moment : Moment tables history) where
@@ -69,10 +66,7 @@ module _ {A : Type 0} where
         let none : (end : End) → 0 ≡ segments_if_live tables moment.before w.next (call_numbered moment.world w.next) end =
         λ end. ap (λ found. segments_if_live tables moment.before w.next found end) (sym fresh) in
         record {
-          ends = record {
-            was = inr (from.asked.request, request);
-            gone = λ live. let there : call_numbered moment.next w.next ≡ Some live.0 = live.1 in absurd (cc);
-          };
+          ends = grind arith;
           beginning = moment;
           request = from.asked.request;
           begins = request;
@@ -99,10 +93,7 @@ module _ {A : Type 0} where
         begun_still tables moment.before history (moment.entry ∷ moment.rest) moment.splits number call (booked.begun number call live) in
         let Q : ℕ → Type 0 = λ l. clears_to (far_end call l) moment.entry.outputs ≡ Clear cause (Some diagnostic) block ∷ [] in
         record {
-          ends = record {
-            was = inl (call, live);
-            gone = λ still. let there : call_numbered moment.next number ≡ Some still.0 = still.1 in absurd (cc);
-          };
+          ends = grind arith;
           beginning = begun.beginning;
           request = begun.request;
           begins = begun.begins;
@@ -150,26 +141,10 @@ module _ {A : Type 0} where
       mid_right = cancel_right tables (length moment.before) moment.world number call moment.entry.event.line right first
 
       below : number < moment.world.next
-      below = elim (cases_lt number moment.world.next) [
-        | inl earlier ↦ earlier
-        | inr past ↦
-            let missing : call_numbered moment.world number ≡ None = right.sound.fresh number past in
-            let live : call_numbered moment.world number ≡ Some call = first.live in absurd (cc)
-      ]
+      below = grind (arith, cases_lt, right)
 
       gone : (change : Change) → moment.next ≡ changed change mid → Comes change → call_numbered moment.next number ≡ None
-      gone change leads from = ap (λ w. call_numbered w number) leads ∙ by change from where
-        missing : call_numbered mid number ≡ None
-        missing = get_gone moment.world.calls number number refl
-
-        by : (c : Change) → Comes c → call_numbered (changed c mid) number ≡ None
-        by (Begins line identifier called dialled setup requested) comes =
-            get_other mid.calls mid.next _ number (λ same. absurd (omega (arith, same, below))) ∙ missing
-        by (IsRefused line identifier dialled why) comes = missing
-        by (Rises line) comes = missing
-        by (Leaves line way) comes = missing
-        by (Connects n c agreement) comes = absurd (comes.old new)
-        by (Ends n c line way cause diagnostic) comes = absurd (comes.old new)
+      gone change leads from = grind (arith, below, get_gone, get_other)
 
       second_recorded : (change : Change) → moment.next ≡ changed change mid → Comes change → All (IsRecordOf moment) (recorded counted moment.entry.event.moment mid change)
       second_recorded (Rises line) leads from = All-nil (IsRecordOf moment)
@@ -204,60 +179,24 @@ module _ {A : Type 0} where
     ]
 
     few_of : (w : World) (change : Change) → length (recorded counted moment.entry.event.moment w change) ≤ 1
-    few_of w (Rises line) = omega arith
-    few_of w (Leaves line way) = omega arith
-    few_of w (Begins line identifier called dialled setup requested) = omega arith
-    few_of w (IsRefused line identifier dialled why) = omega arith
-    few_of w (Connects number call agreement) = omega arith
-    few_of w (Ends number call line way cause diagnostic) = omega arith
+    few_of w change = grind arith
 
     few_recorded : length moment.entry.records.items ≤ 2
-    few_recorded = elim (shape_of tables moment.before moment.world moment.entry moment.next (length moment.before) right moment.step) [
-      | none is old ↦ omega (arith, ap length (moment.step.records ∙ ap (recorded_by counted moment.entry.event.moment moment.world) is))
-      | one change is can from ↦ omega (
-        arith,
-        few_of moment.world change,
-        ap length (moment.step.records ∙ ap (recorded_by counted moment.entry.event.moment moment.world) is ∙ append-nil (recorded counted moment.entry.event.moment moment.world change)),
-      )
-      | two number call change new is first can tells from ↦ omega (
-        arith,
-        few_of (mid number call new first) change,
-        ap length (moment.step.records ∙ ap (recorded_by counted moment.entry.event.moment moment.world) is ∙ ap (λ more. record_of number call (counted number call) moment.entry.event.moment NUMBER_BUSY CALL_COLLISION ∷ more) (append-nil (recorded counted moment.entry.event.moment (mid number call new first) change))),
-      )
-    ]
+    few_recorded = grind (arith, append-nil, few_of, right, shape_of)
 
     -- a new call uses a number
     numbers : (w : World) (change : Change) → IsNew (action_at moment.world moment.entry.event) → Comes change → (changed change w).next ≡ w.next + 1
-    numbers w (Rises line) new from = absurd (from new)
-    numbers w (Leaves line way) new from = absurd (from new)
-    numbers w (Begins line identifier called dialled setup requested) new from = refl
-    numbers w (IsRefused line identifier dialled why) new from = refl
-    numbers w (Connects number call agreement) new from = absurd (from.old new)
-    numbers w (Ends number call line way cause diagnostic) new from = absurd (from.old new)
+    numbers w change new from = grind arith
 
     begun_counts : (request : CallRequest A) (number : ℕ) → HasBegun moment number request → moment.world.next < moment.next.next
-    begun_counts request number begins = elim (shape_of tables moment.before moment.world moment.entry moment.next (length moment.before) right moment.step) [
-      | none is old ↦ absurd (old request begins.asks begins.new)
-      | one change is can from ↦ omega (arith, ap (λ w. w.next) (leads_by (change ∷ []) is), numbers moment.world change begins.new from)
-      | two n call change new is first can tells from ↦
-          omega (arith, ap (λ w. w.next) (leads_by (ends n call new first ∷ change ∷ []) is), numbers (mid n call new first) change begins.new from)
-    ]
+    begun_counts request number begins = grind (arith, leads_by, numbers, right, shape_of)
 
     ended_recorded : (number : ℕ) → HasEnded moment number → count_of number moment.entry.records.items ≡ 1
     ended_recorded number ended =
         let gone : live_of moment.next number ≡ 0 = none_of moment.next number ended.gone in
         elim ended.was [
-          | inl live ↦
-              let one : live_of moment.world number ≡ 1 = ap {A = Option Call} {B = ℕ} (λ found. cond (is_some found) 1 0) live.1 in
-              elim (cases_lt number moment.world.next) [
-                | inl below ↦ omega (arith, tallies.old number below, gone, one)
-                | inr past ↦ let missing : call_numbered moment.world number ≡ None = right.sound.fresh number past in
-                    let there : call_numbered moment.world number ≡ Some live.0 = live.1 in absurd (cc)
-              ]
-          | inr begun ↦
-              let at : number ≡ moment.world.next = begun.1.numbered in
-              let missing : live_of moment.world number ≡ 0 = live_none moment.world number (right.sound.fresh number (omega (arith, at))) in
-              omega (arith, tallies.new number (omega (arith, at)) (omega (arith, at, begun_counts begun.0 number begun.1)), gone, missing)
+          | inl live ↦ grind (arith, below, cases_lt, gone, live_of, right, tallies)
+          | inr begun ↦ grind (arith, begun_counts, gone, live_none, live_of, right, tallies)
         ]
 
   place_of : (tables : Tables) (history : List (Entry A)) (world : World) → Run tables history world

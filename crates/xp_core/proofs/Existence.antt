@@ -159,14 +159,5 @@ module _ {A : Type 0} where
         entry = entry;
         next = world_next tables history world entry;
         event_is = refl;
-        step = record {
-          number = refl;
-          line = omega (arith, line, (run_right tables history world run).sound.lines);
-          told = it.told;
-          acts = it.acts;
-          brought = brings_again (in_force tables history) world event.what (run_sound tables history world sound run);
-          outputs = refl;
-          records = refl;
-          leads = refl;
-        };
+        step = grind (arith, brings_again, run_right, run_sound);
       }

@@ -1,13 +1,11 @@
 -- An entry puts out few packets to a line.
-use Rattle.std.proofs.Common.{◌≡◌, ℕ, suc, ◌+◌, ◌≤◌, Bool, true, false, cond, eqb, IfOk, Result, Ok, Err, Option, Some, None, List, [], ◌∷◌, ◌++◌, filter, length, map, refl, ap, sym, subst, arith, length-append}
+use Rattle.std.proofs.Common.{◌≡◌, ℕ, suc, ◌+◌, ◌≤◌, Bool, true, false, cond, eqb, IfOk, Result, Ok, Err, Option, Some, None, List, [], ◌∷◌, filter, length, map, sym, subst, arith, length-append}
 use Rattle.std.proofs.lemmas.List.{length-map}
-use Rattle.xp_causes.specs.declared.clearing_cause.TheConstants.{LOCAL_PROCEDURE_ERROR, NETWORK_CONGESTION, NUMBER_BUSY, OUT_OF_ORDER, REMOTE_PROCEDURE_ERROR}
-use Rattle.xp_causes.specs.declared.diagnostic.TheConstants.{CALL_COLLISION, NO_ADDITIONAL_INFORMATION, TIMER_EXPIRED_FOR_INCOMING_CALL}
+use Rattle.xp_causes.specs.declared.clearing_cause.TheConstants.{LOCAL_PROCEDURE_ERROR, NETWORK_CONGESTION, REMOTE_PROCEDURE_ERROR}
+use Rattle.xp_causes.specs.declared.diagnostic.TheConstants.{NO_ADDITIONAL_INFORMATION}
 use Rattle.xp_channel.specs.declared.action.Action.{Action}
-use Rattle.xp_channel.specs.declared.action.Action.TheVariants.{Nothing, Rise, Fall, NewCall, Collision, Answer, Confirm, Free, Error, Relayed, Expired}
 use Rattle.xp_charge.specs.declared.record.Record.{Record}
 use Rattle.xp_packets.specs.declared.packet.Packet.{Packet}
-use Rattle.xp_answer.specs.Information.{cleared_with}
 use Rattle.xp_relay.proofs.Few.{puts_out_few}
 use Rattle.xp_relay.specs.Terms.{IsWithinTerms}
 use Rattle.xp_subs.specs.Tables.{Tables}
@@ -16,17 +14,16 @@ use Rattle.xp_step.specs.declared.event.Event.{Event}
 use Rattle.xp_step.specs.declared.event.What.{What}
 use Rattle.xp_step.specs.declared.event.What.TheVariants as events
 use Rattle.xp_step.specs.declared.outcome.Outcome.{Outcome}
-use Rattle.xp_step.specs.declared.outcome.Outcome.TheVariants.{Plain, Put, Refused, Connected, Declined, Exceeded}
 use Rattle.xp_step.specs.declared.output.Output.{Output}
 use Rattle.xp_machine.specs.declared.relays.MeteredRelay.{MeteredRelay}
-use Rattle.xp_step.specs.Acts.{Acts, Answers, CarriesAs, Confirms, IsAnswered, IsPlain, IsRequested, Requests, outputs_of_cancel, closed, outputs_to_both, outputs_of_error, outputs_of_fall}
+use Rattle.xp_step.specs.Acts.{Acts, Answers, CarriesAs, Confirms, IsAnswered, IsPlain, IsRequested, Requests, closed, outputs_to_both, outputs_of_error}
 use Rattle.xp_step.specs.Agreed.{AllHaveTerms}
 use Rattle.xp_step.specs.RelayedPackets.{RelayedPacket, arrivals, relay_terms, relayed_by, turn_of_relayed}
 use Rattle.xp_core.specs.OutputsPerLine.{AreFew, to_line}
-use Rattle.xp_step.specs.StepContext.{StepContext, step_context}
+use Rattle.xp_step.specs.StepContext.{StepContext}
 use Rattle.xp_step.specs.Step.{Step}
-use Rattle.xp_step.specs.Table.{CallAccepted, CallRequest, ClearRequest, accepted_in, action_at, clear_in, packet_in, request_in}
-use Rattle.xp_step.specs.EventOutputs.{EventOutputs, outputs_of_relayed, clear_indication, far_information, no_outputs, outputs_of, send_far, send_on}
+use Rattle.xp_step.specs.Table.{CallAccepted, CallRequest, ClearRequest, packet_in}
+use Rattle.xp_step.specs.EventOutputs.{EventOutputs, outputs_of_relayed, no_outputs, outputs_of, send_far, send_on}
 use Rattle.xp_core.specs.steps.PreparedEntry.{Enters}
 use Rattle.xp_machine.specs.World.{Call, World, call_on}
 use Rattle.xp_step.proofs.RelayedPackets.{of_carried}
@@ -45,11 +42,7 @@ module _ {A : Type 0} where
   Few told = length told.carried + length told.own + length told.far + length told.taken ≤ 17
 
   few_in_all : (told : EventOutputs A) → Few told → length (outputs_of told) ≤ 17
-  few_in_all told few =
-      let all = length-append (told.carried ++ told.own ++ told.far) told.taken in
-      let three = length-append (told.carried ++ told.own) told.far in
-      let two = length-append told.carried told.own in
-      omega (arith, all, three, two, few)
+  few_in_all told few = grind (arith, length-append)
 
   these : (this told : EventOutputs A) → told ≡ this → Few this → Few told
   these this told is few = subst Few (sym is) few
@@ -58,8 +51,7 @@ module _ {A : Type 0} where
   none_few outcome told is = these no_outputs told is.1 (omega arith)
 
   far_few : (world : World) (line : ℕ) (found : Option (ℕ × Call)) (packet : Packet A) → length (send_far world line found packet) ≤ 1
-  far_few world line None packet = omega arith
-  far_few world line (Some found) packet = omega arith
+  far_few world line found packet = grind arith
 
   closed_few : (world : World) (line : ℕ) (what : What A) → length (closed world line what) ≤ 1
   closed_few world line events.Stall = omega arith
@@ -73,44 +65,27 @@ module _ {A : Type 0} where
 module _ {A : Type 0} (tables : Tables) (world : World) (line : ℕ) where
   request_few : (far : List (Output A)) (request : CallRequest A) (outcome : Outcome) (told : EventOutputs A) → length far ≤ 1
       → IsRequested tables world line far request outcome told → Few told
-  request_few far request (Put called setup) told few is = these _ told is.told_is (omega (arith, few))
-  request_few far request (Refused why) told few is = these _ told is.told_is (omega (arith, few))
-  request_few far request Plain told few is = absurd is
-  request_few far request (Connected agreement) told few is = absurd is
-  request_few far request (Declined diagnostic) told few is = absurd is
-  request_few far request Exceeded told few is = absurd is
+  request_few far request outcome told few is = grind (arith, these)
 
   requests_few : (far : List (Output A)) (asked : Option (CallRequest A)) (outcome : Outcome) (told : EventOutputs A) → length far ≤ 1
       → Requests tables world line far asked outcome told → Few told
-  requests_few far None outcome told few is = none_few outcome told is
-  requests_few far (Some request) outcome told few is = request_few far request outcome told few is
+  requests_few far asked outcome told few is = grind (arith, none_few, request_few)
 
 module _ {A : Type 0} (at : StepContext A) where
   both_few : (near far diagnostic : ℕ) (told : EventOutputs A) → told ≡ outputs_to_both at near far diagnostic → Few told
-  both_few near far diagnostic told is =
-      these (outputs_to_both at near far diagnostic) told is
-      (omega (arith, far_few {A = A} at.world at.line (call_on at.world at.line) (cleared_with far diagnostic (far_information at (call_on at.world at.line)))))
+  both_few near far diagnostic told is = grind (arith, far_few, these)
 
   error_few : (diagnostic : ℕ) (told : EventOutputs A) → told ≡ outputs_of_error at diagnostic → Few told
   error_few diagnostic told is = both_few LOCAL_PROCEDURE_ERROR REMOTE_PROCEDURE_ERROR diagnostic told is
 
   answer_few : (answer : CallAccepted A) (call : Call) (outcome : Outcome) (told : EventOutputs A) → IsAnswered at answer call outcome told → Few told
-  answer_few answer call (Connected agreement) told is = these _ told is.told_is (omega arith)
-  answer_few answer call (Declined diagnostic) told is = error_few diagnostic told is.told_is
-  answer_few answer call Plain told is = absurd is
-  answer_few answer call (Put called setup) told is = absurd is
-  answer_few answer call (Refused why) told is = absurd is
-  answer_few answer call Exceeded told is = absurd is
+  answer_few answer call outcome told is = grind (arith, error_few, these)
 
   answers_few : (accepted : Option (CallAccepted A)) (found : Option (ℕ × Call)) (outcome : Outcome) (told : EventOutputs A) → Answers at accepted found outcome told → Few told
-  answers_few None found outcome told is = none_few outcome told is
-  answers_few (Some answer) None outcome told is = none_few outcome told is
-  answers_few (Some answer) (Some found) outcome told is = answer_few answer found.1 outcome told is
+  answers_few accepted found outcome told is = grind (arith, answer_few, none_few)
 
   confirms_few : (clear : Option (ClearRequest A)) (found : Option (ℕ × Call)) (outcome : Outcome) (told : EventOutputs A) → Confirms at clear found outcome told → Few told
-  confirms_few None found outcome told is = none_few outcome told is
-  confirms_few (Some clear) None outcome told is = these _ told is.1 (omega arith)
-  confirms_few (Some clear) (Some found) outcome told is = these _ told is.told_is (omega arith)
+  confirms_few clear found outcome told is = grind (arith, none_few, these)
 
 module _ {A : Type 0} (at : StepContext A) (what : What A) (terms : AllHaveTerms at.tables at.world) where
   carried_few : (carried : Option (RelayedPacket A)) → relayed_by at.line (call_on at.world at.line) (packet_in what) ≡ carried → (told : EventOutputs A)
@@ -131,30 +106,11 @@ module _ {A : Type 0} (at : StepContext A) (what : What A) (terms : AllHaveTerms
   carries_few carried by true outcome told acts = both_few at NETWORK_CONGESTION NETWORK_CONGESTION NO_ADDITIONAL_INFORMATION told acts.1
 
   few_told : (action : Action) (outcome : Outcome) (told : EventOutputs A) → Acts at what action outcome told → Few told
-  few_told Nothing outcome told acts = none_few outcome told acts
-  few_told Rise outcome told acts = none_few outcome told acts
-  few_told Fall outcome told acts = these (outputs_of_fall at what) told acts.1 (omega (
-    arith,
-    closed_few at.world at.line what,
-    far_few {A = A} at.world at.line (call_on at.world at.line) (cleared_with OUT_OF_ORDER NO_ADDITIONAL_INFORMATION (far_information at (call_on at.world at.line))),
-  ))
-  few_told NewCall outcome told acts = requests_few at.force at.world at.line [] (request_in what) outcome told (omega arith) acts
-  few_told Collision outcome told acts = requests_few at.force at.world at.line (outputs_of_cancel at.world at.line) (request_in what) outcome told
-      (far_few at.world at.line (call_on at.world at.line) (clear_indication NUMBER_BUSY CALL_COLLISION)) acts
-  few_told Answer outcome told acts = answers_few at (accepted_in what) (call_on at.world at.line) outcome told acts
-  few_told Confirm outcome told acts = confirms_few at (clear_in what) (call_on at.world at.line) outcome told acts
-  few_told Free outcome told acts = none_few outcome told acts
-  few_told (Error diagnostic) outcome told acts = error_few at diagnostic told acts.1
-  few_told Relayed outcome told acts = carries_few (relayed_by at.line (call_on at.world at.line) (packet_in what)) refl _ outcome told acts
-  few_told Expired outcome told acts = error_few at TIMER_EXPIRED_FOR_INCOMING_CALL told acts.1
+  few_told action outcome told acts = grind (arith, answers_few, carries_few, closed_few, confirms_few, error_few, far_few, none_few, requests_few, these)
 
 module _ {A : Type 0} where
   pub few_of_step : (tables : Tables) (before : List (Entry A)) (world : World) (entry : Entry A) (next : World) → AllHaveTerms tables world → Step tables before world entry next → AreFew entry.outputs
-  few_of_step tables before world entry next terms step line =
-      let at : StepContext A = step_context tables before world entry.event.line entry.event.moment in
-      let each : length (to_line line entry.outputs) ≤ length entry.outputs = to_line_few line entry.outputs in
-      let few : length (outputs_of step.told) ≤ 17 = few_in_all step.told (few_told at entry.event.what terms (action_at world entry.event) entry.outcome step.told step.acts) in
-      omega (arith, each, few, ap length step.outputs)
+  few_of_step tables before world entry next terms step line = grind (arith, few_in_all, few_told, to_line_few)
 
   -- the outcome of a call that returns what `advance` returned
   pub outcome_few : {E : Type 0} (tables : Tables) (old : World) (relays : List (Option (MeteredRelay A))) (history : List (Entry A)) (waiting : List Record) (event : Event A)

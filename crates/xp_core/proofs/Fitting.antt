@@ -19,11 +19,10 @@ use Rattle.xp_subs.specs.Sound.{IsSound}
 use Rattle.xp_subs.specs.Tables.{Tables, address_of, line_count, modulus_of}
 use Rattle.xp_step.specs.declared.entry.Entry.{Entry}
 use Rattle.xp_step.specs.declared.event.What.{What}
-use Rattle.xp_step.specs.declared.event.What.TheVariants.{Frame}
 use Rattle.xp_step.specs.declared.output.Output.{Output}
 use Rattle.xp_machine.specs.World.{line_states, Line, World, far_end, line_at, off_line, opening}
 use Rattle.xp_machine.specs.CallEnds.{line_at_end}
-use Rattle.xp_machine.specs.Changes.{Change, Rises, Leaves, Begins, IsRefused, Connects, Ends, all_changed, changed}
+use Rattle.xp_machine.specs.Changes.{Change, all_changed, changed}
 use Rattle.xp_step.specs.Exchange.{IsReadable}
 use Rattle.xp_step.specs.Run.{Run}
 use Rattle.xp_step.specs.StepContext.{StepContext, step_context}
@@ -61,51 +60,28 @@ module _ {A : Type 0} where
   block_short : (identifier : ℕ) (block : Block A)
       → cond (ltb 4095 identifier) (Some Format) (cond (ltb 109 (length block.facilities)) (Some Facilities) (cond (ltb 128 (length block.user)) (Some Long) None)) ≡ None
       → (identifier < 4096) × (length block.user ≤ 128)
-  block_short identifier block fit =
-      let first = passed (ltb 4095 identifier) _ _ fit in
-      let second = passed (ltb 109 (length block.facilities)) _ _ first.1 in
-      let third = passed (ltb 128 (length block.user)) _ _ second.1 in
-      (omega (arith, ltb-false 4095 identifier first.0), ltb-false 128 (length block.user) third.0)
+  block_short identifier block fit = grind (arith, ltb-false, passed)
 
   request_short : (what : What A) (request : CallRequest A) → request_in what ≡ Some request → IsReadable what
       → (request.identifier < 4096) × (length request.block.user ≤ 128)
-  request_short (Frame identifier (packets.Call d block)) request is readable =
-      let same : ◌≡◌ {A = CallRequest A} (record { identifier = identifier; d = d; block = block }) request = cc in
-      let P : CallRequest A → Type 0 = λ r. (r.identifier < 4096) × (length r.block.user ≤ 128) in
-      subst P same (block_short identifier block readable.encodable)
-  request_short what request is readable = absurd (cc)
+  request_short what request is readable = grind (arith, block_short)
 
   -- and it dials few digits
   pub request_few : (what : What A) (request : CallRequest A) → request_in what ≡ Some request → IsReadable what → length request.block.called ≤ 15
-  request_few (Frame identifier (packets.Call d block)) request is readable =
-      let same : ◌≡◌ {A = CallRequest A} (record { identifier = identifier; d = d; block = block }) request = cc in
-      let P : CallRequest A → Type 0 = λ r. length r.block.called ≤ 15 in
-      subst P same readable.few
-  request_few what request is readable = absurd (cc)
+  request_few what request is readable = grind arith
 
   accepted_user : (identifier : ℕ) (d : Bool) (block : Option (Block A)) → encoding_fault Wide identifier (packets.Accepted d block) ≡ None → length (user_in block) ≤ 128
-  accepted_user identifier d None fit = omega arith
-  accepted_user identifier d (Some block) fit = (block_short identifier block fit).1
+  accepted_user identifier d block fit = grind (arith, block_short)
 
   answer_short : (what : What A) (answer : CallAccepted A) → accepted_in what ≡ Some answer → IsReadable what → length (user_in answer.block) ≤ 128
-  answer_short (Frame identifier (packets.Accepted d block)) answer is readable =
-      let same : ◌≡◌ {A = CallAccepted A} (record { d = d; block = block }) answer = cc in
-      let P : CallAccepted A → Type 0 = λ a. length (user_in a.block) ≤ 128 in
-      subst P same (accepted_user identifier d block readable.encodable)
-  answer_short what answer is readable = absurd (cc)
+  answer_short what answer is readable = grind (arith, accepted_user)
 
   cleared_user : (identifier cause : ℕ) (diagnostic : Option ℕ) (block : Option (Block A)) → encoding_fault Wide identifier (packets.Clear cause diagnostic block) ≡ None
       → length (user_in block) ≤ 128
-  cleared_user identifier cause diagnostic None fit = omega arith
-  cleared_user identifier cause None (Some block) fit = absurd (cc)
-  cleared_user identifier cause (Some diagnostic) (Some block) fit = (block_short identifier block fit).1
+  cleared_user identifier cause diagnostic block fit = grind (arith, block_short)
 
   clear_short : (what : What A) (clear : ClearRequest A) → clear_in what ≡ Some clear → IsReadable what → length (user_in clear.block) ≤ 128
-  clear_short (Frame identifier (packets.Clear cause diagnostic block)) clear is readable =
-      let same : ◌≡◌ {A = ClearRequest A} (record { cause = cause; diagnostic = diagnostic; block = block }) clear = cc in
-      let P : ClearRequest A → Type 0 = λ c. length (user_in c.block) ≤ 128 in
-      subst P same (cleared_user identifier cause diagnostic block readable.encodable)
-  clear_short what clear is readable = absurd (cc)
+  clear_short what clear is readable = grind (arith, cleared_user)
 
   -- ---- what is put out
 
@@ -124,8 +100,7 @@ module _ {A : Type 0} where
     sent_fits output (closing is) = let W : Output A → Type 0 = λ o. Written o in subst W (sym is) tt
     sent_fits output (confirming information is) = sent at.line _ output is (confirmed_information A information)
     sent_fits output (clearing cause diagnostic information is) = sent at.line _ output is (cleared_information A cause diagnostic information)
-    sent_fits output (refusing request why asks is) =
-        sent_as at.line _ _ output is (clear_fits A (modulus_of at.tables at.line) request.identifier why.cause why.diagnostic (request_short what request asks readable).0)
+    sent_fits output (refusing request why asks is) = grind (arith, clear_fits, request_short, sent_as)
     sent_fits output (clearing_far found cause diagnostic information live is) =
         sent (far_end found.1 at.line) _ output is (cleared_information A cause diagnostic information)
     sent_fits output (carrying_on found clear information packet live clears carried is) =
@@ -150,16 +125,7 @@ module _ {A : Type 0} where
     asked_narrow line identifier dialled asked = omega (arith, asked.identifier_is, (request_short what asked.request asked.asks readable).0)
 
     changed_narrow : (change : Change) (world : World) → ComesOf at what change → IsNarrow world → IsNarrow (changed change world)
-    changed_narrow (Rises line) world from narrow = λ l. set_narrow world.lines line _ l (omega arith) (narrow l)
-    changed_narrow (Leaves line way) world from narrow = λ l. set_narrow world.lines line _ l (narrow line) (narrow l)
-    changed_narrow (Begins line identifier called dialled setup requested) world from narrow = λ l.
-        set_narrow _ called _ l (omega arith) (set_narrow world.lines line _ l (asked_narrow line identifier dialled from.asked) (narrow l))
-    changed_narrow (IsRefused line identifier dialled why) world from narrow = λ l.
-        set_narrow world.lines line _ l (asked_narrow line identifier dialled from) (narrow l)
-    changed_narrow (Connects number call agreement) world from narrow = λ l.
-        set_narrow _ call.caller _ l (narrow call.caller) (set_narrow world.lines call.called _ l (narrow call.called) (narrow l))
-    changed_narrow (Ends number call line way cause diagnostic) world from narrow = λ l.
-        set_narrow _ line _ l (narrow line) (set_narrow world.lines (far_end call line) _ l (narrow (far_end call line)) (narrow l))
+    changed_narrow change world from narrow = grind (arith, asked_narrow, set_narrow)
 
     all_changed_narrow : (changes : List Change) (world : World) → AllByRecursion (ComesOf at what) changes → IsNarrow world → IsNarrow (all_changed changes world)
     all_changed_narrow [] world from narrow = narrow

@@ -1,5 +1,5 @@
 -- The state of flow control that is seen of a line.
-use Rattle.std.proofs.Common.{◌≡◌, ◌∙◌, ℕ, Option, Some, None, option_map, List, ap, sym, subst}
+use Rattle.std.proofs.Common.{arith, ◌≡◌, ◌∙◌, ℕ, Option, Some, None, option_map, List, ap, sym, subst}
 use Rattle.xp_relay.specs.Coupled.{Coupled, state_at}
 use Rattle.xp_relay.specs.StoredCoupled.{RepresentsCall}
 use Rattle.xp_relay.specs.declared.state.FlowState.{FlowState}
@@ -41,6 +41,4 @@ module _ {A : Type 0} (tables : Tables) (history : List (Entry A)) (world : Worl
       pub connected : (kept : MeteredRelay A) (state : FlowState) → Some kept ≡ relay_under relays call.caller
           → ((shown : Coupled A) → RepresentsCall kept.relay shown → state ≡ state_at (end_of (call_of_stored call) line) shown)
           → Some state ≡ flow_at tables history world line
-      connected kept state under is =
-          let P : Option (MeteredRelay A) → Type 0 = λ r. IsRepresentedBy r (directions tables history call.number (call_of_stored call) agreement) (counted_by tables history call.number (call_of_stored call) (Some agreement)) in
-          ap (λ s. Some s) (is (directions tables history call.number (call_of_stored call) agreement) (subst P (sym under) is_kept).0) ∙ ap (option_map its) agreed ∙ seen
+      connected kept state under is = grind (arith, is_kept, seen)

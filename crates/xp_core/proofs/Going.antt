@@ -1,12 +1,12 @@
 -- The lines that must go, found one after another.
-use Rattle.std.proofs.Common.{◌≡◌, ℕ, ◌+◌, ◌<◌, All, Contains, IsSome, Some, None, List, [], ◌∷◌, ◌++◌, refl, sym, subst, inl, inr, arith}
+use Rattle.std.proofs.Common.{ℕ, ◌+◌, ◌<◌, All, Contains, List, [], ◌∷◌, ◌++◌, refl, sym, subst, inl, inr, arith}
 use Rattle.std.proofs.lemmas.Bool.{cases_eq}
-use Rattle.std.proofs.lemmas.List.Elements.{All-nil, All-push, Contains-append_left, Contains-append_right}
+use Rattle.std.proofs.lemmas.List.Elements.{All-push, Contains-append_left, Contains-append_right}
 use Rattle.std.proofs.lemmas.List.Kept.{AllPairs-from_increasing}
 use Rattle.std.proofs.lemmas.List.Quantifiers.{all_pairs_push}
 use Rattle.std.specs.List.Sorted.{IsStrictlyIncreasing}
 use Rattle.xp_subs.specs.Tables.{Tables, line_count}
-use Rattle.xp_machine.specs.World.{World, call_on}
+use Rattle.xp_machine.specs.World.{World}
 use Rattle.xp_reload.specs.Frame.{IsSameFrame}
 use Rattle.xp_subs.specs.Sound.{IsSound}
 use Rattle.xp_core.specs.Reload.{AreGoing, MayReplace, MustGo}
@@ -24,24 +24,11 @@ rising_push lines line rising below k within =
 
 module _ (force : Tables) (world : World) (next : Tables) where
   pub none_below : AreGoingBelow force world next 0 []
-  none_below = record {
-    each = All-nil (MustGo force world next);
-    all = λ line within must. absurd (omega (arith, within));
-    below = All-nil (λ l. l < 0);
-    rising = λ k within. absurd (omega (arith, within));
-  }
+  none_below = grind arith
 
   -- the next line stays, or is out of service
   pub stays_below : (number : ℕ) (lines : List ℕ) → AreGoingBelow force world next number lines → (MustGo force world next number → ⊥) → AreGoingBelow force world next (number + 1) lines
-  stays_below number lines going stays = record {
-    each = going.each;
-    all = λ line within must. elim (cases_eq line number) [
-      | inl is ↦ absurd (stays (subst (MustGo force world next) is must))
-      | inr other ↦ going.all line (omega (arith, within, other)) must
-    ];
-    below = λ k d within. let before = going.below k d within in omega (arith, before);
-    rising = going.rising;
-  }
+  stays_below number lines going stays = grind (arith, cases_eq)
 
   -- the next line must go
   pub goes_below : (number : ℕ) (lines : List ℕ) → AreGoingBelow force world next number lines → MustGo force world next number
@@ -60,11 +47,4 @@ module _ (force : Tables) (world : World) (next : Tables) where
   all_going lines going = record { each = going.each; all = λ line must. going.all line must.known must; rising = going.rising }
 
   pub may_replace : IsSound next → IsSameFrame force next → IsIdle force world next (line_count force) → MayReplace force world next
-  may_replace sound frame idle = record {
-    sound = sound;
-    frame = frame;
-    idle = λ line within stays moves. elim (call_on world line) as (λ found. call_on world line ≡ found → call_on world line ≡ None) [
-      | None ↦ λ is. is
-      | Some found ↦ λ is. absurd (idle line within (record { known = within; stays = stays; moves = moves; in_call = subst IsSome (sym is) refl }))
-    ] refl;
-  }
+  may_replace sound frame idle = grind arith

@@ -1,11 +1,10 @@
 -- The packets that a readable history brought can be encoded, and so can those that are carried on.
-use Rattle.std.proofs.Common.{◌≡◌, ℕ, ◌<◌, eqb, Option, Some, None, List, [], ◌∷◌, ◌++◌, All, arith, refl, subst}
+use Rattle.std.proofs.Common.{◌≡◌, ℕ, ◌<◌, Option, Some, List, [], ◌∷◌, ◌++◌, All, arith, refl, subst}
 use Rattle.std.proofs.lemmas.Bool.{cond_both}
-use Rattle.std.proofs.lemmas.List.Elements.{All-append, All-contains, All-cons, All-head, All-nil, All-tail}
+use Rattle.std.proofs.lemmas.List.Elements.{All-append, All-contains, All-head, All-nil, All-tail}
 use Rattle.std.specs.List.{Contains}
 use Rattle.xp_packets.specs.Encodability.{CanBeEncoded}
 use Rattle.xp_packets.specs.declared.end.End.{End}
-use Rattle.xp_packets.specs.declared.end.End.TheVariants.{Caller, Called}
 use Rattle.xp_packets.specs.declared.modulus.Modulus.{Modulus}
 use Rattle.xp_packets.specs.declared.modulus.Modulus.TheVariants.{Long}
 use Rattle.xp_packets.specs.declared.packet.Packet.{Packet}
@@ -17,11 +16,10 @@ use Rattle.xp_relay.specs.declared.terms.Terms.{Terms}
 use Rattle.xp_subs.specs.Tables.{Tables, line_count, modulus_of}
 use Rattle.xp_step.specs.declared.entry.Entry.{Entry}
 use Rattle.xp_step.specs.declared.event.What.{What}
-use Rattle.xp_step.specs.declared.event.What.TheVariants as events
 use Rattle.xp_step.specs.RelayedPackets.{RelayedPacket, arrival_for, arrivals, arrivals_from, relay_terms, relayed_by, relayed_in, turn_of_relayed}
 use Rattle.xp_step.specs.Exchange.{IsReadable}
 use Rattle.xp_step.specs.StepContext.{StepContext}
-use Rattle.xp_step.specs.Table.{action_at, packet_in}
+use Rattle.xp_step.specs.Table.{packet_in}
 use Rattle.xp_machine.specs.CallEnds.{line_at_end}
 use Rattle.xp_machine.specs.World.{Call, World, call_on, opening}
 use Rattle.xp_machine.specs.declared.agreement.Agreement.{Agreement}
@@ -31,27 +29,18 @@ use Rattle.xp_step.proofs.RelayedPackets.{is_relayed, of_carried}
 
 -- the modulus of a call's line at an end
 modulus_there : (tables : Tables) (call : Call) (agreement : Agreement) (end : End) → modulus_at end (relay_terms tables call agreement) ≡ modulus_of tables (line_at_end call end)
-modulus_there tables call agreement Caller = refl
-modulus_there tables call agreement Called = refl
+modulus_there tables call agreement end = grind arith
 
 module _ {A : Type 0} where
   packet_can : (what : What A) (packet : Packet A) → packet_in what ≡ Some packet → IsReadable what → (identifier : ℕ) × CanBeEncoded Long identifier packet
-  packet_can (events.Frame identifier came) packet is readable =
-      let same : came ≡ packet = cc in
-      let P : Packet A → Type 0 = λ p. CanBeEncoded Long identifier p in
-      (identifier, subst P same readable.encodable)
-  packet_can what packet is readable = absurd (cc)
+  packet_can what packet is readable = grind arith
 
   pub carried_can : (line : ℕ) (found : Option (ℕ × _)) (what : What A) (carried : RelayedPacket A) → relayed_by line found (packet_in what) ≡ Some carried → IsReadable what → CameEncoded carried.arrival
   carried_can line found what carried is readable = packet_can what carried.arrival.packet (of_carried line found (packet_in what) carried is).arrives readable
 
   arrival_can : (world : World) (entry : Entry A) (number : ℕ) (carried : Option (RelayedPacket A)) → relayed_in world entry.event ≡ carried → IsReadable entry.event.what
       → All CameEncoded (arrival_for number carried)
-  arrival_can world entry number None is readable = All-nil CameEncoded
-  arrival_can world entry number (Some carried) is readable =
-      cond_both (eqb carried.number number) (carried.arrival ∷ []) [] (λ came. All CameEncoded came)
-      (λ mine. All-cons CameEncoded carried.arrival [] (carried_can entry.event.line (call_on world entry.event.line) entry.event.what carried (is_relayed (action_at world entry.event) _ carried is).1 readable) (All-nil CameEncoded))
-      (λ other. All-nil CameEncoded)
+  arrival_can world entry number carried is readable = grind (arith, carried_can, cond_both, is_relayed)
 
   came_from : (number : ℕ) (tables : Tables) (before : List (Entry A)) (world : World) (entries : List (Entry A)) → AreReadable entries
       → All CameEncoded (arrivals_from number tables before world entries)

@@ -1,27 +1,24 @@
 -- Closed user groups let the stations of every call be joined.
-use Rattle.std.proofs.Common.{◌≡◌, ℕ, Bool, true, false, Option, Some, None, List, [], sym, subst, IfSome}
+use Rattle.std.proofs.Common.{arith, ◌≡◌, ℕ, Bool, true, false, Option, Some, None, List, sym, subst, IfSome}
 use Rattle.xp_channel.specs.declared.action.Action.{Action}
-use Rattle.xp_channel.specs.declared.action.Action.TheVariants.{NewCall, Collision, Answer as Accepting, Confirm, Relayed}
 use Rattle.xp_decide.proofs.Joined.{taken_may_join}
 use Rattle.xp_subs.specs.Sound.{IsSound}
 use Rattle.xp_subs.specs.Tables.{Tables}
 use Rattle.xp_step.specs.declared.entry.Entry.{Entry}
-use Rattle.xp_step.specs.declared.event.Event.{Event}
 use Rattle.xp_step.specs.declared.event.What.{What}
 use Rattle.xp_step.specs.declared.outcome.Outcome.{Outcome}
 use Rattle.xp_step.specs.declared.outcome.Outcome.TheVariants.{Plain, Put, Refused, Connected, Declined, Exceeded}
 use Rattle.xp_step.specs.declared.output.Output.{Output}
-use Rattle.xp_step.specs.Acts.{Acts, Answers, CarriesAs, Confirms, Requests, outputs_of_cancel}
-use Rattle.xp_machine.specs.World.{line_states, Call, World, call_numbered, call_on}
-use Rattle.xp_step.specs.RelayedPackets.{RelayedPacket, relayed_by}
+use Rattle.xp_step.specs.Acts.{Acts, Answers, CarriesAs, Confirms, Requests}
+use Rattle.xp_machine.specs.World.{line_states, Call, World, call_numbered}
+use Rattle.xp_step.specs.RelayedPackets.{RelayedPacket}
 use Rattle.xp_core.specs.Joined.{AreJoined, IsJoined, MayTalk}
 use Rattle.xp_core.specs.Records.{Moment}
 use Rattle.xp_step.specs.InForce.{in_force}
 use Rattle.xp_step.specs.Outcomes.{taken_by}
 use Rattle.xp_step.specs.Run.{Run}
-use Rattle.xp_step.specs.Segments.{is_past_limit}
-use Rattle.xp_step.specs.StepContext.{StepContext, step_context}
-use Rattle.xp_step.specs.Table.{CallAccepted, CallRequest, ClearRequest, accepted_in, action_at, clear_in, packet_in, request_in}
+use Rattle.xp_step.specs.StepContext.{StepContext}
+use Rattle.xp_step.specs.Table.{CallAccepted, CallRequest, ClearRequest}
 use Rattle.xp_step.specs.EventOutputs.{EventOutputs}
 use Rattle.xp_step.proofs.InForce.{run_sound}
 use Rattle.xp_core.proofs.Ledger.{run_booked}
@@ -49,41 +46,22 @@ module _ {A : Type 0} (at : StepContext A) (what : What A) (sound : IsSound at.f
 
   answer_taken : (accepted : Option (CallAccepted A)) (found : Option (ℕ × Call)) (outcome : Outcome) (told : EventOutputs A)
       → Answers at accepted found outcome told → IsTakenWell outcome
-  answer_taken None found outcome told acts = plain_taken outcome acts.0
-  answer_taken (Some answer) None outcome told acts = plain_taken outcome acts.0
-  answer_taken (Some answer) (Some found) (Put called setup) told acts = absurd acts
-  answer_taken (Some answer) (Some found) (Refused why) told acts = tt
-  answer_taken (Some answer) (Some found) Plain told acts = tt
-  answer_taken (Some answer) (Some found) (Connected agreement) told acts = tt
-  answer_taken (Some answer) (Some found) (Declined diagnostic) told acts = tt
-  answer_taken (Some answer) (Some found) Exceeded told acts = tt
+  answer_taken accepted found outcome told acts = grind (arith, plain_taken)
 
   clear_taken : (clear : Option (ClearRequest A)) (found : Option (ℕ × Call)) (outcome : Outcome) (told : EventOutputs A)
       → Confirms at clear found outcome told → IsTakenWell outcome
-  clear_taken None found outcome told acts = plain_taken outcome acts.0
-  clear_taken (Some clear) None outcome told acts = plain_taken outcome acts.0
-  clear_taken (Some clear) (Some found) outcome told acts = plain_taken outcome acts.plain
+  clear_taken clear found outcome told acts = grind (arith, plain_taken)
 
   carry_taken : (carried : Option (RelayedPacket A)) (past : Bool) (outcome : Outcome) (told : EventOutputs A) → CarriesAs at carried past outcome told → IsTakenWell outcome
   carry_taken carried false outcome told acts = plain_taken outcome acts.0
   carry_taken carried true outcome told acts = let P : Outcome → Type 0 = λ o. IsTakenWell o in subst P (sym acts.0) tt
 
   taken_joined : (action : Action) (outcome : Outcome) (told : EventOutputs A) → Acts at what action outcome told → IsTakenWell outcome
-  taken_joined NewCall outcome told acts = request_taken [] (request_in what) outcome told acts
-  taken_joined Collision outcome told acts = request_taken (outputs_of_cancel at.world at.line) (request_in what) outcome told acts
-  taken_joined Accepting outcome told acts = answer_taken (accepted_in what) (call_on at.world at.line) outcome told acts
-  taken_joined Confirm outcome told acts = clear_taken (clear_in what) (call_on at.world at.line) outcome told acts
-  taken_joined Relayed outcome told acts =
-      let carried = relayed_by at.line (call_on at.world at.line) (packet_in what) in
-      carry_taken carried (is_past_limit at.tables at.before carried) outcome told acts
-  taken_joined action outcome told acts = plain_taken outcome acts.0
+  taken_joined action outcome told acts = grind (arith, answer_taken, carry_taken, clear_taken, plain_taken, request_taken)
 
 module _ {A : Type 0} (tables : Tables) (history : List (Entry A)) where
   taken_at : IsSound tables → (asking : Moment tables history) → IfSome (taken_by asking.entry.outcome) (MayTalk (in_force tables asking.before) asking.entry.event.line)
-  taken_at sound asking =
-      let event : Event A = asking.entry.event in
-      taken_joined (step_context tables asking.before asking.world event.line event.moment) event.what (run_sound tables asking.before asking.world sound asking.run)
-      (action_at asking.world event) asking.entry.outcome asking.step.told asking.step.acts
+  taken_at sound asking = grind (arith, run_sound, taken_joined)
 
   live_joined : (world : World) → IsSound tables → Run tables history world → (number : ℕ) (call : Call) → call_numbered world number ≡ Some call → IsJoined tables history number call
   live_joined world sound run number call live =

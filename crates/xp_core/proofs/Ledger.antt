@@ -9,7 +9,6 @@ use Rattle.xp_subs.specs.Tables.{Tables, line_count}
 use Rattle.xp_step.specs.declared.entry.Entry.{Entry}
 use Rattle.xp_charge.specs.declared.record.Record.{Record}
 use Rattle.xp_machine.specs.Changes.{Change, Rises, Leaves, Begins, IsRefused, Connects, Ends, all_changed, changed, recorded, recorded_by}
-use Rattle.xp_machine.specs.Clearing.{record_of, refused_record}
 use Rattle.xp_core.specs.Records.{Begins as HasBegun, Moment, count_of, holders, records_of}
 use Rattle.xp_step.specs.Outcomes.{payer_of, taken_by}
 use Rattle.xp_step.specs.Run.{Run}
@@ -43,14 +42,10 @@ count_of-append : (number : ℕ) (records more : List Record) → count_of numbe
 count_of-append number records more = count_by-append (λ charged. eqb charged.number number) records more
 
 count_of-one : (number : ℕ) (charged : Record) → charged.number ≡ number → count_of number (charged ∷ []) ≡ 1
-count_of-one number charged same =
-    let one : ◌≡◌ {A = ℕ} (cond (eqb charged.number number) 1 0) 1 = ap (λ b. cond b 1 0) (eq-eqb charged.number number same) in
-    omega (arith, count_by-cons (λ r. eqb r.number number) charged [], one)
+count_of-one number charged same = grind (arith, count_by-cons, eq-eqb)
 
 count_of-other : (number : ℕ) (charged : Record) → charged.number ≢ number → count_of number (charged ∷ []) ≡ 0
-count_of-other number charged other =
-    let no : ◌≡◌ {A = ℕ} (cond (eqb charged.number number) 1 0) 0 = ap (λ b. cond b 1 0) (ne_eqb charged.number number other) in
-    omega (arith, count_by-cons (λ r. eqb r.number number) charged [], no)
+count_of-other number charged other = grind (arith, count_by-cons, ne_eqb)
 
 -- a number given before keeps its call or gets a record, and one given now has either
 pub record Tallies (world next : World) (records : List Record) : Type 0 where
@@ -60,75 +55,11 @@ pub record Tallies (world next : World) (records : List Record) : Type 0 where
   pub beyond : (number : ℕ) → next.next ≤ number → count_of number records + live_of next number ≡ live_of world number
 
 tallies_same : (world next : World) → next.next ≡ world.next → ((number : ℕ) → call_numbered next number ≡ call_numbered world number) → Tallies world next []
-tallies_same world next number same = record {
-  grows = omega (arith, number);
-  old = λ n below. omega (arith, live_same world next n (same n));
-  new = λ n past below. absurd (omega (arith, number, past, below));
-  beyond = λ n past. omega (arith, live_same world next n (same n));
-}
+tallies_same world next number same = grind (arith, live_same)
 
 pub changed_tallies : (counted : ℕ → Call → End → ℕ) (moment : ℕ) (world : World) (change : Change) → ((number : ℕ) → world.next ≤ number → call_numbered world number ≡ None)
     → CanBe world change → Tallies world (changed change world) (recorded counted moment world change)
-changed_tallies counted moment world (Rises line) fresh can = tallies_same world _ refl (λ number. refl)
-changed_tallies counted moment world (Leaves line way) fresh can = tallies_same world _ refl (λ number. refl)
-changed_tallies counted moment world (Connects number call agreement) fresh can = record {
-  grows = omega arith;
-  old = λ n below. same n;
-  new = λ n past below. absurd (omega (arith, past, below));
-  beyond = λ n past. same n;
-} where
-  agreed : Call
-  agreed = record call { agreed = Some agreement }
-
-  same : (n : ℕ) → count_of n [] + live_of (changed (Connects number call agreement) world) n ≡ live_of world n
-  same n = elim (cases_eq n number) [
-    | inl is ↦
-        let P : ℕ → Type 0 = λ m. live_of (changed (Connects number call agreement) world) m ≡ live_of world m in
-        let here : P number = live_is (changed (Connects number call agreement) world) number agreed (get_new world.calls number agreed) ∙ sym (live_is world number call can) in
-        omega (arith, subst P (sym is) here)
-    | inr other ↦ omega (arith, live_same world (changed (Connects number call agreement) world) n (get_other world.calls number agreed n other))
-  ]
-changed_tallies counted moment world (Begins line identifier called dialled setup requested) fresh can =
-    let change : Change = Begins line identifier called dialled setup requested in
-    let next : World = changed change world in
-    let call : Call = record { caller = line; called = called; dialled = dialled; setup = setup; requested = requested; agreed = None } in
-    let other : (number : ℕ) → number ≢ world.next → live_of next number ≡ live_of world number =
-    λ number differs. live_same world next number (get_other world.calls world.next call number differs) in
-    record {
-      grows = omega arith;
-      old = λ number below. omega (arith, other number (λ same. absurd (omega (arith, same, below))));
-      new = λ number past below.
-          let same : world.next ≡ number = omega (arith, past, below) in
-          let P : ℕ → Type 0 = λ n. live_of next n ≡ live_of world n + 1 in
-          let here : P world.next = omega (arith, live_is next world.next call (get_new world.calls world.next call), live_none world world.next (fresh world.next (omega arith))) in
-          omega (arith, subst P same here);
-      beyond = λ number past. omega (arith, other number (λ same. absurd (omega (arith, same, past))));
-    }
-changed_tallies counted moment world (IsRefused line identifier dialled why) fresh can =
-    let charged : Record = refused_record world.next moment line dialled why in
-    record {
-      grows = omega arith;
-      old = λ number below. omega (arith, count_of-other number charged (λ same. absurd (omega (arith, same, below))));
-      new = λ number past below. omega (arith, count_of-one number charged (omega (arith, past, below)));
-      beyond = λ number past. omega (arith, count_of-other number charged (λ same. absurd (omega (arith, same, past))));
-    }
-changed_tallies counted moment world (Ends number call line way cause diagnostic) fresh can =
-    let change : Change = Ends number call line way cause diagnostic in
-    let next : World = changed change world in
-    let charged : Record = record_of number call (counted number call) moment cause diagnostic in
-    let all : (n : ℕ) → count_of n (charged ∷ []) + live_of next n ≡ live_of world n =
-    λ n. elim (cases_eq n number) [
-      | inl same ↦
-          let P : ℕ → Type 0 = λ m. live_of world m ≡ 1 in
-          omega (arith, count_of-one n charged (sym same), live_none next n (get_gone world.calls number n same), subst P (sym same) (live_is world number call can.live))
-      | inr other ↦ omega (arith, count_of-other n charged (λ same. other (sym same)), live_same world next n (get_left world.calls number n other))
-    ] in
-    record {
-      grows = omega arith;
-      old = λ n below. all n;
-      new = λ n past below. absurd (omega (arith, past, below));
-      beyond = λ n past. all n;
-    }
+changed_tallies counted moment world change fresh can = grind (arith, cases_eq, count_of-one, count_of-other, get_gone, get_left, get_new, get_other, live_is, live_none, live_same, tallies_same)
 
 -- one after the other, the first of which gives no number
 tallies_both : (world mid next : World) (records more : List Record) → mid.next ≡ world.next → Tallies world mid records → Tallies mid next more → Tallies world next (records ++ more)
@@ -292,18 +223,9 @@ module _ {A : Type 0} where
       let none_yet : (n : ℕ) → next.next ≤ n → holders (before ++ entry ∷ []) next n ≡ 0 =
       λ n past. omega (arith, counted n, tallies.beyond n past, booked.fresh n (omega (arith, past, tallies.grows))) in (
         record {
-          once = λ n. elim (cases_lt n world.next) [
-            | inl below ↦ omega (arith, still n below, booked.once n)
-            | inr past ↦ elim (cases_lt n next.next) [
-              | inl below ↦ omega (arith, given n past below)
-              | inr beyond ↦ omega (arith, none_yet n beyond)
-            ]
-          ];
+          once = grind (arith, cases_lt);
           fresh = none_yet;
-          kept = λ n from below. elim (cases_lt n world.next) [
-            | inl earlier ↦ still n earlier ∙ booked.kept n from earlier
-            | inr past ↦ given n past below
-          ];
+          kept = grind (arith, cases_lt);
           begun = begun_next tables before world entry next old.1 step
               (λ n c is. begun_still tables before (before ++ entry ∷ []) (entry ∷ []) refl n c (booked.begun n c is)) right;
         },

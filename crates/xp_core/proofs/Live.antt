@@ -1,20 +1,16 @@
 -- Where the live calls after a step come from.
 use Rattle.std.proofs.Common.{◌≡◌, ◌∙◌, ◌≤◌, ℕ, Option, Some, None, List, [], ◌∷◌, refl, ap, sym, subst, inl, inr, arith}
-use Rattle.xp_channel.specs.declared.action.Action.{Action}
 use Rattle.xp_channel.specs.declared.action.Action.TheVariants.{Answer}
 use Rattle.xp_subs.specs.Tables.{Tables}
 use Rattle.xp_step.specs.declared.entry.Entry.{Entry}
 use Rattle.xp_machine.specs.declared.agreement.Agreement.{Agreement}
 use Rattle.xp_machine.specs.Changes.{Change, Rises, Leaves, Begins, IsRefused, Connects, Ends, all_changed, changed}
-use Rattle.xp_machine.specs.Channel.{Ringing, Talking}
-use Rattle.xp_machine.specs.Coupling.{IsHeld}
 use Rattle.xp_step.specs.Effects.{changes_of}
 use Rattle.xp_step.specs.StepContext.{step_context}
 use Rattle.xp_step.specs.Step.{Step}
 use Rattle.xp_step.specs.Table.{action_at}
-use Rattle.xp_machine.specs.World.{Call, World, call_numbered, call_on, state_at}
-use Rattle.xp_core.proofs.Cells.{Suits, suits_in}
-use Rattle.xp_machine.proofs.Coupled.{CanBe}
+use Rattle.xp_machine.specs.World.{Call, World, call_numbered, call_on}
+use Rattle.xp_core.proofs.Cells.{suits_in}
 use Rattle.xp_machine.proofs.InCall.{end_of, shown_on}
 use Rattle.xp_machine.proofs.Maps.{new_or_old, was_there}
 use Rattle.xp_core.proofs.Shapes.{ComesOf, IsNew, cancelled_by, none, one, two}
@@ -41,11 +37,7 @@ begins_with (change ∷ changes) = Some change
 -- where the first change connects none
 not_connected : (changes : List Change) (change : Change) (number : ℕ) → begins_with changes ≡ Some change
     → ((call : Call) (agreement : Agreement) → change ≡ Connects number call agreement → ⊥) → Connected changes number → ⊥
-not_connected changes change number first other connects =
-    let is : changes ≡ Connects number connects.call connects.agreement ∷ connects.rest = connects.is in
-    let begins : begins_with changes ≡ Some (Connects number connects.call connects.agreement) = ap begins_with is in
-    let same : change ≡ Connects number connects.call connects.agreement = cc in
-    other connects.call connects.agreement same
+not_connected changes change number first other connects = grind arith
 
 module _ {A : Type 0} (tables : Tables) (before : List (Entry A)) (world : World) (entry : Entry A) (next : World) (entries : ℕ)
     (right : IsRight tables entries world) (step : Step tables before world entry next) where
@@ -54,23 +46,7 @@ module _ {A : Type 0} (tables : Tables) (before : List (Entry A)) (world : World
 
   -- a call that is answered was not connected
   unagreed : (number : ℕ) (call : Call) → action_at world entry.event ≡ Answer → call_on world entry.event.line ≡ Some (number, call) → call.agreed ≡ None
-  unagreed number call answers on =
-      let line : ℕ = entry.event.line in
-      let P : Action → Type 0 = λ action. Suits action (state_at world line) in
-      let rings = subst P answers (suits_in (state_at world line) entry.event.what) in
-      let shown = shown_on world line (number, call) on in
-      let held : IsHeld tables world number call = right.coupled.held number call shown.1 in
-      elim held.stage [
-        | inl put ↦ put.2
-        | inr accepted ↦ elim (end_of tables world right.coupled line number call shown.0 shown.1) [
-          | inl is ↦
-              let talks : state_at world line ≡ Talking number = ap (state_at world) is ∙ accepted.0 in
-              let ringing : state_at world line ≡ Ringing rings.0 = rings.1 in absurd (cc)
-          | inr is ↦
-              let talks : state_at world line ≡ Talking number = ap (state_at world) is ∙ accepted.1 in
-              let ringing : state_at world line ≡ Ringing rings.0 = rings.1 in absurd (cc)
-        ]
-      ]
+  unagreed number call answers on = grind (arith, end_of, shown_on, suits_in)
 
   one_was : (change : Change) → Comes change → (number : ℕ) (call : Call) → call_numbered (changed change world) number ≡ Some call → Was world (change ∷ []) number call
   one_was (Rises line) from number call is = same is (not_connected _ (Rises line) number refl (λ c a e. absurd (cc)))
@@ -86,12 +62,9 @@ module _ {A : Type 0} (tables : Tables) (before : List (Entry A)) (world : World
         | inl new ↦
             let here : call_numbered world n ≡ Some c = (shown_on world entry.event.line (n, c) from.on).1 in
             joined c a (ap (call_numbered world) new.0 ∙ here) (unagreed n c from.answers from.on) (ap (λ m. Connects m c a ∷ []) (sym new.0)) (sym new.1)
-        | inr old ↦ same old.1 (λ connected.
-            let e : Connects n c a ∷ [] ≡ Connects number connected.call connected.agreement ∷ connected.rest = connected.is in
-            let first : n ≡ number = cc in old.0 (sym first))
+        | inr old ↦ grind arith
       ]
-  one_was (Ends n c line way cause diagnostic) from number call is =
-      same (was_there world.calls n number call is).1 (not_connected _ (Ends n c line way cause diagnostic) number refl (λ c' a e. absurd (cc)))
+  one_was (Ends n c line way cause diagnostic) from number call is = grind (arith, not_connected, was_there)
 
   -- after the end of the call that a collision cancels
   module _ (n : ℕ) (c : Call) where
@@ -122,10 +95,7 @@ module _ {A : Type 0} (tables : Tables) (before : List (Entry A)) (world : World
       let P : World → Type 0 = λ w. call_numbered w number ≡ Some call in
       let here : call_numbered (all_changed changes world) number ≡ Some call = subst P step.leads is in
       elim (shape_of tables before world entry next entries right step) [
-        | none nothing old ↦
-            let Q : List Change → Type 0 = λ cs. call_numbered (all_changed cs world) number ≡ Some call in
-            let R : List Change → Type 0 = λ cs. Was world cs number call in
-            subst R (sym nothing) (same (subst Q nothing here) (λ connected. let e : [] ≡ Connects number connected.call connected.agreement ∷ connected.rest = connected.is in absurd (cc)))
+        | none nothing old ↦ grind arith
         | one change it can from ↦
             let Q : List Change → Type 0 = λ cs. call_numbered (all_changed cs world) number ≡ Some call in
             let R : List Change → Type 0 = λ cs. Was world cs number call in
@@ -139,28 +109,11 @@ module _ {A : Type 0} (tables : Tables) (before : List (Entry A)) (world : World
   -- a call that is connected is live
   pub connects_live : (number : ℕ) (call : Call) (agreement : Agreement) (rest : List Change) → changes ≡ Connects number call agreement ∷ rest
       → call_numbered world number ≡ Some call
-  connects_live number call agreement rest is = elim (shape_of tables before world entry next entries right step) [
-    | none nothing old ↦ absurd (cc)
-    | one change it can from ↦
-        let first : change ≡ Connects number call agreement = ap_first change [] _ rest (sym it ∙ is) in
-        let P : Change → Type 0 = λ c. CanBe world c in
-        subst P first can
-    | two n c change new it first can told from ↦
-        let ends : cancelled_by n c entry.event.line ≡ Connects number call agreement = ap_first (cancelled_by n c entry.event.line) (change ∷ []) _ rest (sym it ∙ is) in
-        absurd (cc)
-  ]
-    where
-      ap_first : (first : Change) (more : List Change) (other : Change) (others : List Change) → first ∷ more ≡ other ∷ others → first ≡ other
-      ap_first first more other others is' = cc
+  connects_live number call agreement rest is = grind (arith, cancelled_by, shape_of)
 
   -- the next number does not go back
   next_of : (change : Change) (w : World) → w.next ≤ (changed change w).next
-  next_of (Rises line) w = omega arith
-  next_of (Leaves line way) w = omega arith
-  next_of (IsRefused line identifier dialled why) w = omega arith
-  next_of (Begins line identifier called dialled setup requested) w = omega arith
-  next_of (Connects n c a) w = omega arith
-  next_of (Ends n c line way cause diagnostic) w = omega arith
+  next_of change w = grind arith
 
   all_next : (all : List Change) (w : World) → w.next ≤ (all_changed all w).next
   all_next [] w = omega arith

@@ -1,5 +1,5 @@
 -- The moment that is kept of a live call's connection is that of the entry that connected it.
-use Rattle.std.proofs.Common.{◌≡◌, ◌∙◌, ℕ, ◌≤◌, ◌<◌, ◌⊎◌, Option, Some, None, option_map, List, [], ◌∷◌, ◌++◌, length, refl, ap, sym, subst, inl, inr, arith}
+use Rattle.std.proofs.Common.{◌≡◌, ◌∙◌, ℕ, ◌≤◌, ◌<◌, ◌⊎◌, Option, Some, None, List, [], ◌∷◌, ◌++◌, length, refl, ap, sym, subst, inl, inr, arith}
 use Rattle.std.proofs.lemmas.Bool.{cases_lt}
 use Rattle.std.specs.FinMap.{get-empty}
 use Rattle.std.specs.Ordering.{nat_cmp}
@@ -8,7 +8,7 @@ use Rattle.xp_channel.specs.declared.action.Action.TheVariants.{Answer}
 use Rattle.xp_subs.specs.Tables.{Tables, line_count}
 use Rattle.xp_step.specs.declared.entry.Entry.{Entry}
 use Rattle.xp_step.specs.declared.outcome.Outcome.TheVariants.{Connected}
-use Rattle.xp_step.specs.Effects.{answers, changes_of, effects_of}
+use Rattle.xp_step.specs.Effects.{changes_of}
 use Rattle.xp_core.specs.Records.{Connects as HasConnected, Moment, WasConnected}
 use Rattle.xp_step.specs.Run.{Run}
 use Rattle.xp_step.specs.StepContext.{StepContext, step_context}
@@ -18,7 +18,7 @@ use Rattle.xp_machine.specs.declared.agreement.Agreement.{Agreement}
 use Rattle.xp_machine.specs.Changes.{Change, Connects}
 use Rattle.xp_machine.specs.Channel.{Ringing, call_of}
 use Rattle.xp_machine.specs.Clearing.{connected_of}
-use Rattle.xp_machine.specs.World.{Call, World, call_numbered, call_on, numbered, opening, state_at}
+use Rattle.xp_machine.specs.World.{Call, World, call_numbered, call_on, opening, state_at}
 use Rattle.xp_machine.proofs.InCall.{shown_on}
 use Rattle.xp_core.proofs.Cells.{Suits, suits_in}
 use Rattle.xp_core.proofs.Fronts.{last_or_before}
@@ -66,43 +66,22 @@ module _ {A : Type 0} where
             step = moment.step;
           } in
           inl (old, record { answers = connects.answers; rings = connects.rings; agreement = connects.agreement; settled = connects.settled })
-      | inr last ↦
-          let there : ConnectsAt number moment.world moment.entry =
-          record { answers = connects.answers; rings = connects.rings; agreement = connects.agreement; settled = connects.settled } in
-          let P : Entry A → Type 0 = λ e. ConnectsAt number moment.world e in
-          let Q : World → Type 0 = λ w. ConnectsAt number w entry in
-          let worlds : moment.world ≡ world =
-          run_world tables moment.before moment.world moment.run
-          ∙ sym (run_world tables moment.before world (subst (λ entries. Run tables entries world) last.0 run)) in
-          inr (subst Q worlds (subst P (sym last.1) there))
+      | inr last ↦ grind (arith, run_world)
     ]
 
     -- ---- what the entry connects
 
     -- the call that rings on the line
     rung : (number : ℕ) → ConnectsAt number world entry → (call : Call) × (call_on world entry.event.line ≡ Some (number, call))
-    rung number connects =
-        let shows : call_of (state_at world entry.event.line) ≡ Some number = ap call_of connects.rings in
-        let found = right.coupled.shown entry.event.line number shows in
-        (found.0, ap (numbered world) shows ∙ ap (option_map (λ c. (number, c))) found.1)
+    rung number connects = grind arith
 
     changes_are : (number : ℕ) (connects : ConnectsAt number world entry)
         → changes_of tables before world entry ≡ Connects number (rung number connects).0 connects.agreement ∷ []
-    changes_are number connects =
-        let call = rung number connects in
-        ap (λ action. effects_of at entry.event.what action entry.outcome) connects.answers
-        ∙ ap (answers entry.event.line (call_on world entry.event.line)) connects.settled
-        ∙ ap (λ found. answers entry.event.line found (Connected connects.agreement)) call.1
+    changes_are number connects = grind (arith, rung)
 
     -- its number was given
     given : (number : ℕ) → ConnectsAt number world entry → number < world.next
-    given number connects =
-        let call = rung number connects in
-        let live = (shown_on world entry.event.line (number, call.0) call.1).1 in
-        elim (cases_lt number world.next) [
-          | inl below ↦ below
-          | inr past ↦ let missing : call_numbered world number ≡ None = right.sound.fresh number past in absurd (cc)
-        ]
+    given number connects = grind (arith, cases_lt, rung, shown_on)
 
     abbrev Comes : Change → Type 0
     Comes change = ComesOf at entry.event.what (action_at world entry.event) entry.outcome step.told change
@@ -112,13 +91,8 @@ module _ {A : Type 0} where
         → Comes (Connects number call agreement)
     joined_by number call agreement is = elim (shape_of tables before world entry next (length before) right step) [
       | none nothing old ↦ absurd (cc)
-      | one change it can from ↦
-          let first : change ≡ Connects number call agreement = first_same change (Connects number call agreement) [] [] (sym it ∙ is) in
-          subst Comes first from
-      | two n c change new it first can told from ↦
-          let ends : cancelled_by n c entry.event.line ≡ Connects number call agreement =
-          first_same (cancelled_by n c entry.event.line) (Connects number call agreement) (change ∷ []) [] (sym it ∙ is) in
-          absurd (cc)
+      | one change it can from ↦ grind arith
+      | two n c change new it first can told from ↦ grind (arith, cancelled_by)
     ]
       where
         first_same : (first other : Change) (rest others : List Change) → first ∷ rest ≡ other ∷ others → first ≡ other

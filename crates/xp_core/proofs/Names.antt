@@ -1,5 +1,5 @@
 -- Every line that an entry of a run names is one of the subscriptions'.
-use Rattle.std.proofs.Common.{◌≡◌, ℕ, ◌<◌, eqb, IfOk, Result, Ok, Err, Some, List, [], ◌∷◌, ◌++◌, All, length, refl, ap, arith, subst, sym}
+use Rattle.std.proofs.Common.{◌≡◌, ℕ, ◌<◌, eqb, IfOk, Result, Some, List, [], ◌∷◌, ◌++◌, All, length, refl, ap, arith, subst, sym}
 use Rattle.std.proofs.Math.Seq.{drop-append_seam}
 use Rattle.std.proofs.lemmas.Bool.{cond_both}
 use Rattle.std.proofs.lemmas.List.Elements.{All-nil, All-cons, All-push, All-append, All-drop, All-head, All-same, All-tail, All-weaker}
@@ -14,7 +14,7 @@ use Rattle.xp_subs.specs.Tables.{Tables, line_count}
 use Rattle.xp_step.specs.declared.entry.Entry.{Entry}
 use Rattle.xp_step.specs.declared.event.What.{What}
 use Rattle.xp_step.specs.declared.output.Output.{Output}
-use Rattle.xp_machine.specs.World.{line_states, Call, World, call_numbered, call_on, far_end, opening}
+use Rattle.xp_machine.specs.World.{line_states, Call, World, call_numbered, far_end, opening}
 use Rattle.xp_machine.specs.CallEnds.{line_at_end}
 use Rattle.xp_machine.specs.Changes.{Change, Rises, Leaves, Begins, IsRefused, Connects, Ends, changed, recorded, recorded_by}
 use Rattle.xp_machine.specs.Clearing.{record_of, refused_record}
@@ -26,7 +26,7 @@ use Rattle.xp_step.specs.Segments.{segments_of}
 use Rattle.xp_step.specs.StepContext.{StepContext, step_context}
 use Rattle.xp_step.specs.Step.{Step}
 use Rattle.xp_step.specs.Effects.{changes_of}
-use Rattle.xp_step.specs.Table.{action_at, packet_in}
+use Rattle.xp_step.specs.Table.{action_at}
 use Rattle.xp_step.specs.EventOutputs.{outputs_of}
 use Rattle.xp_step.proofs.RelayedPackets.{of_carried}
 use Rattle.xp_machine.proofs.InCall.{shown_on}
@@ -58,18 +58,12 @@ module _ {A : Type 0} (at : StepContext A) (what : What A) (sound : IsSound at.f
   sent_named output (confirming information is) = to at.line output (ap (λ o. o.line) is) within
   sent_named output (clearing cause diagnostic information is) = to at.line output (ap (λ o. o.line) is) within
   sent_named output (refusing request why asks is) = to at.line output (ap (λ o. o.line) is) within
-  sent_named output (clearing_far found cause diagnostic information live is) =
-      to (far_end found.1 at.line) output (ap (λ o. o.line) is) (far_within found.0 found.1 at.line live)
-  sent_named output (carrying_on found clear information packet live clears carried is) =
-      to (far_end found.1 at.line) output (ap (λ o. o.line) is) (far_within found.0 found.1 at.line live)
-  sent_named output (connecting found answer connection live accepts answered is) =
-      to found.1.caller output (ap (λ o. o.line) is) (coupled.held found.0 found.1 live).caller
+  sent_named output (clearing_far found cause diagnostic information live is) = grind (arith, far_within, to)
+  sent_named output (carrying_on found clear information packet live clears carried is) = grind (arith, far_within, to)
+  sent_named output (connecting found answer connection live accepts answered is) = grind (arith, to)
   sent_named output (ringing request ring packet asks decided incoming is) =
       to ring.line output (ap (λ o. o.line) is) (omega (arith, count, (taken_is_free at.force (line_states at.world) at.line request.block ring sound decided).known))
-  sent_named output (carrying carried move by in_it is) =
-      let it = of_carried at.line (call_on at.world at.line) (packet_in what) carried by in
-      let live = (shown_on at.world at.line (carried.number, carried.call) it.on).1 in
-      to (line_at_end carried.call move.side) output (ap (λ o. o.line) is) (end_within carried.number carried.call move.side live)
+  sent_named output (carrying carried move by in_it is) = grind (arith, end_within, of_carried, shown_on, to)
 
   -- ---- what is recorded
 
@@ -146,5 +140,4 @@ module _ {A : Type 0} where
 
 -- what holds of the value of an Ok leads on
 pub if_ok : {X E : Type 0} {P : X → Type 0} (Q : X → Type 0) (outcome : Result X E) → IfOk outcome P → ((x : X) → P x → Q x) → IfOk outcome Q
-if_ok Q (Ok x) is goes = goes x is
-if_ok Q (Err fault) is goes = tt
+if_ok Q outcome is goes = grind arith

@@ -1,14 +1,13 @@
 -- What the entries of a history show of a connected call is what its relay was handed, and what it put out.
-use Rattle.std.proofs.Common.{◌≡◌, ◌≢◌, ◌∙◌, ℕ, eqb, cond, Bool, true, false, Option, Some, None, option_map, List, [], ◌∷◌, ◌++◌, append-nil, length, map, refl, ap, sym, subst, inl, inr}
+use Rattle.std.proofs.Common.{arith, ◌≡◌, ◌≢◌, ◌∙◌, ℕ, Bool, true, false, Option, Some, None, option_map, List, [], ◌∷◌, ◌++◌, append-nil, length, map, refl, ap, sym, subst, inl, inr}
 use Rattle.std.proofs.lemmas.List.{map-append}
 use Rattle.std.proofs.lemmas.Bool.{cases_eq, cond-false, cond-true, eq-eqb, ne_eqb}
 use Rattle.xp_causes.specs.Indicated.{indicated_cause, indicated_diagnostic}
-use Rattle.xp_causes.specs.declared.clearing_cause.TheConstants.{NETWORK_CONGESTION, OUT_OF_ORDER, REMOTE_PROCEDURE_ERROR}
+use Rattle.xp_causes.specs.declared.clearing_cause.TheConstants.{OUT_OF_ORDER, REMOTE_PROCEDURE_ERROR}
 use Rattle.xp_causes.specs.declared.diagnostic.TheConstants.{NO_ADDITIONAL_INFORMATION}
 use Rattle.xp_channel.specs.declared.action.Action.{Action}
 use Rattle.xp_channel.specs.declared.action.Action.TheVariants.{Nothing, Fall, Confirm, Error, Relayed}
 use Rattle.xp_packets.specs.declared.end.End.{End}
-use Rattle.xp_packets.specs.declared.end.End.TheVariants.{Caller, Called}
 use Rattle.xp_packets.specs.declared.packet.Packet.{Packet}
 use Rattle.xp_packets.specs.declared.packet.Packet.TheVariants as packets
 use Rattle.xp_packets.specs.Diagnostics.{diagnostic_of}
@@ -21,9 +20,8 @@ use Rattle.xp_subs.specs.Tables.{Tables, line_count}
 use Rattle.xp_step.specs.declared.entry.Entry.{Entry}
 use Rattle.xp_step.specs.declared.event.What.{What}
 use Rattle.xp_step.specs.declared.event.What.TheVariants as events
-use Rattle.xp_step.specs.declared.outcome.Outcome.TheVariants.{Exceeded}
 use Rattle.xp_step.specs.Acts.{Acts, CarriesAs}
-use Rattle.xp_step.specs.Effects.{carries, changes_of, effects_of, leaves}
+use Rattle.xp_step.specs.Effects.{changes_of, effects_of, leaves}
 use Rattle.xp_step.specs.EventOutputs.{outputs_of, send_on}
 use Rattle.xp_step.specs.RelayedPackets.{RelayedPacket, arrivals, relay_terms, relayed_as, relayed_by, relayed_in, directions}
 use Rattle.xp_step.specs.Run.{Run}
@@ -33,7 +31,7 @@ use Rattle.xp_step.specs.StepContext.{StepContext, step_context}
 use Rattle.xp_step.specs.Table.{action_at, action_in, packet_in}
 use Rattle.xp_machine.specs.declared.agreement.Agreement.{Agreement}
 use Rattle.xp_machine.specs.CallEnds.{end_of as which_end, line_at_end}
-use Rattle.xp_machine.specs.Changes.{Connects, Ends, NoCallState, GoesOut, IsCleared, IsFree, all_changed}
+use Rattle.xp_machine.specs.Changes.{Connects, Ends, NoCallState, GoesOut, IsCleared, IsFree}
 use Rattle.xp_machine.specs.Channel.{Talking, call_of, channel_of}
 use Rattle.xp_machine.specs.Coupling.{IsEnd, IsHeld}
 use Rattle.xp_machine.specs.World.{Call, World, call_numbered, call_on, numbered, opening, state_at}
@@ -56,22 +54,10 @@ use Rattle.xp_core.proofs.Worlds.{run_world}
 -- ---- the ends of a call
 
 end_of_line : (call : Call) (line : ℕ) → call.caller ≢ call.called → IsEnd call line → end_at call line ≡ Some (which_end call line)
-end_of_line call line two (inl is) =
-    let same : eqb call.caller line ≡ true = eq-eqb call.caller line (sym is) in
-    cond-true (eqb call.caller line) (Some Caller) (cond (eqb call.called line) (Some Called) None) same
-    ∙ ap Some (sym (cond-true (eqb call.caller line) Caller Called same))
-end_of_line call line two (inr is) =
-    let other : eqb call.caller line ≡ false = ne_eqb call.caller line (λ same. two (same ∙ is)) in
-    cond-false (eqb call.caller line) (Some Caller) (cond (eqb call.called line) (Some Called) None) other
-    ∙ cond-true (eqb call.called line) (Some Called) None (eq-eqb call.called line (sym is))
-    ∙ ap Some (sym (cond-false (eqb call.caller line) Caller Called other))
+end_of_line call line one other = grind (arith, cond-false, cond-true, eq-eqb, ne_eqb)
 
 end_of_side : (call : Call) (side : End) → call.caller ≢ call.called → end_at call (line_at_end call side) ≡ Some side
-end_of_side call Caller two =
-    cond-true (eqb call.caller call.caller) (Some Caller) (cond (eqb call.called call.caller) (Some Called) None) (eq-eqb call.caller call.caller refl)
-end_of_side call Called two =
-    cond-false (eqb call.caller call.called) (Some Caller) (cond (eqb call.called call.called) (Some Called) None) (ne_eqb call.caller call.called two)
-    ∙ cond-true (eqb call.called call.called) (Some Called) None (eq-eqb call.called call.called refl)
+end_of_side call side one = grind (arith, cond-false, cond-true, eq-eqb, ne_eqb)
 
 module _ {A : Type 0} where
   -- ---- lists of what is handled
@@ -97,10 +83,7 @@ module _ {A : Type 0} where
 
   -- where nothing comes and nothing is put out, nothing is seen
   nothing_more : (sender : End) (seen : Observed A) → observe_moves sender seen [] ≡ seen
-  nothing_more sender seen =
-      ap (λ put. record seen { put = put; told = seen.told ++ []; interrupts_put = seen.interrupts_put ++ [] }) (append-nil seen.put)
-      ∙ ap (λ told. record seen { told = told; interrupts_put = seen.interrupts_put ++ [] }) (append-nil seen.told)
-      ∙ ap (λ put. record seen { interrupts_put = put }) (append-nil seen.interrupts_put)
+  nothing_more sender seen = grind (arith, append-nil)
 
   -- what is put out for a call is the moves of its relay
   put_out_moves : (world : World) (call : Call) → call.caller ≢ call.called → (moves : List (Move A)) → put_out_to call (map (send_on world call) moves) ≡ moves
@@ -110,8 +93,7 @@ module _ {A : Type 0} where
       ∙ ap (λ rest. move ∷ rest) (put_out_moves world call two moves)
 
   arrival_none : (end : Option End) → arrival_of {A = A} end None ≡ None
-  arrival_none None = refl
-  arrival_none (Some end) = refl
+  arrival_none end = grind arith
 
   -- ---- one entry, of a connected call that stays live
 
@@ -153,9 +135,7 @@ module _ {A : Type 0} where
 
     module _ (outside : call_of (state_at world line) ≡ Some number → ⊥) where
       none_carried : (c : RelayedPacket A) → relayed_in world entry.event ≡ Some c → number ≢ c.number
-      none_carried c by is =
-          let it = of_carried line (call_on world line) (packet_in entry.event.what) c (is_relayed (action_at world entry.event) _ c by).1 in
-          outside ((shown_on world line (c.number, c.call) it.on).0 ∙ ap Some (sym is))
+      none_carried c by is = grind (arith, is_relayed, of_carried, shown_on)
 
       elsewhere : Result
       elsewhere =
@@ -174,50 +154,33 @@ module _ {A : Type 0} where
       end = end_of tables world right.coupled line number call shows there
 
       talking : state_at world line ≡ Talking number
-      talking = elim end [
-        | inl is ↦ ap (state_at world) is ∙ talks.0
-        | inr is ↦ ap (state_at world) is ∙ talks.1
-      ]
+      talking = grind (arith, end, talks)
 
       on : call_on world line ≡ Some (number, call)
       on = ap (numbered world) shows ∙ ap (option_map (λ c. (number, c))) there
 
       -- the call does not end
       not_ended : (way : NoCallState) (cause diagnostic : ℕ) → changes_of tables before world entry ≡ Ends number call line way cause diagnostic ∷ [] → ⊥
-      not_ended way cause diagnostic ends =
-          let gone : call_numbered next number ≡ None =
-          ap (λ w. call_numbered w number) (step.leads ∙ ap (λ changes. all_changed changes world) ends) ∙ get_gone world.calls number number refl in
-          absurd (cc)
+      not_ended way cause diagnostic ends = grind (arith, get_gone)
 
       -- ---- by its action
 
       module _ (what : What A) (is : entry.event.what ≡ what) where
         action_of : (action : Action) → action_in (channel_of (Talking number)) what ≡ action → action_at world entry.event ≡ action
-        action_of action cell_is =
-            ap (λ state. action_in (channel_of state) entry.event.what) talking ∙ ap (λ w. action_in (channel_of (Talking number)) w) is ∙ cell_is
+        action_of action cell_is = grind (arith, talking)
 
         changes_are : (action : Action) → action_at world entry.event ≡ action → changes_of tables before world entry ≡ effects_of at what action entry.outcome
-        changes_are action action_is =
-            ap (λ a. effects_of at entry.event.what a entry.outcome) action_is ∙ ap (λ w. effects_of at w action entry.outcome) is
+        changes_are action action_is = grind arith
 
         leaving : (way : NoCallState) (cause diagnostic : ℕ) → changes_of tables before world entry ≡ leaves line way cause diagnostic (call_on world line) ∷ [] → Result
-        leaving way cause diagnostic changes =
-            absurd (not_ended way cause diagnostic (changes ∙ ap (λ found. leaves line way cause diagnostic found ∷ []) on))
+        leaving way cause diagnostic changes = grind (arith, not_ended)
 
         acts_as : (action : Action) → action_at world entry.event ≡ action → Acts at what action entry.outcome step.told
-        acts_as action action_is =
-            subst (λ w. Acts at w action entry.outcome step.told) is (subst (λ a. Acts at entry.event.what a entry.outcome step.told) action_is step.acts)
+        acts_as action action_is = grind arith
 
         -- nothing is done
         idle : action_at world entry.event ≡ Nothing → packet_in what ≡ None → Result
-        idle action_is none =
-            let by : relayed_in world entry.event ≡ None = ap (λ a. relayed_as a (relayed_by line (call_on world line) (packet_in entry.event.what))) action_is in
-            let came : came_in call entry.event ≡ None =
-            ap (λ w. arrival_of (end_at call line) (packet_in w)) is ∙ ap (arrival_of (end_at call line)) none ∙ arrival_none (end_at call line) in
-            let silent : put_out_to call entry.outputs ≡ [] =
-            ap (put_out_to call) (step.outputs ∙ ap outputs_of (acts_as Nothing action_is).1) in
-            still (ap (λ c. handling c (put_out_to call entry.outputs)) came ∙ ap (λ ms. handling None ms) silent)
-            (arrivals_still tables before world entry number (run_world tables before world run) (λ c is_c. let never : None ≡ Some c = sym by ∙ is_c in absurd (cc)))
+        idle action_is none = grind (arith, acts_as, arrival_none, arrivals_still, run_world)
 
         -- a packet is relayed
         module _ (packet : Packet A) (action_is : action_at world entry.event ≡ Relayed) (brings : packet_in what ≡ Some packet) where
@@ -231,27 +194,18 @@ module _ {A : Type 0} where
           agreed_on a = record { number = number; call = call; agreement = a; arrival = arrival }
 
           by_line : relayed_by line (call_on world line) (packet_in what) ≡ Some c
-          by_line =
-              ap (λ found. relayed_by line found (packet_in what)) on ∙ ap (relayed_by line (Some (number, call))) brings
-              ∙ ap (option_map agreed_on) agreed
+          by_line = grind arith
 
           by : relayed_in world entry.event ≡ Some c
-          by =
-              ap (λ a. relayed_as a (relayed_by line (call_on world line) (packet_in entry.event.what))) action_is
-              ∙ ap (λ w. relayed_by line (call_on world line) (packet_in w)) is ∙ by_line
+          by = grind (arith, by_line)
 
           abbrev moves : List (Move A)
           moves = (turn_on (directions tables before number call agreement) arrival).moves
 
           carried : (past : Bool) → CarriesAs at (Some c) past entry.outcome step.told → Result
-          carried true acts =
-              absurd (not_ended IsCleared NETWORK_CONGESTION NO_ADDITIONAL_INFORMATION
-              (changes_are Relayed action_is ∙ ap (carries line (call_on world line)) acts.0
-              ∙ ap (λ found. carries line found Exceeded) on))
+          carried true acts = grind (arith, changes_are, not_ended)
           carried false acts =
-              let came : came_in call entry.event ≡ Some arrival =
-              ap (λ w. arrival_of (end_at call line) (packet_in w)) is ∙ ap (arrival_of (end_at call line)) brings
-              ∙ ap (λ e. arrival_of e (Some packet)) (end_of_line call line held.two end) in
+              let came : came_in call entry.event ≡ Some arrival = grind (arith, end, end_of_line) in
               let outputs : put_out_to call entry.outputs ≡ moves =
               ap (put_out_to call) (step.outputs ∙ ap outputs_of acts.1 ∙ sym (carried_alone (map (send_on world call) moves)))
               ∙ put_out_moves world call held.two moves in
@@ -346,12 +300,7 @@ module _ {A : Type 0} where
           ap (λ h. observe_moves sender (observe_arrival terms sender (so_far sender) h.came) h.moves) is
           ∙ nothing_more sender (so_far sender)
           ∙ ap (λ xs. observed terms sender (handled_over (coupled terms) xs)) (sym unchanged)
-      led_on sender (one arrival is more) =
-          ap (λ h. observe_moves sender (observe_arrival terms sender (so_far sender) h.came) h.moves) is
-          ∙ sym (observed_more terms sender nothing_observed (handled_over (coupled terms) (arrivals tables before number))
-          (handling (Some arrival) (turn_on (directions tables before number call agreement) arrival).moves))
-          ∙ ap (observed terms sender) (sym (handled_more (coupled terms) (arrivals tables before number) arrival))
-          ∙ ap (λ xs. observed terms sender (handled_over (coupled terms) xs)) (sym more)
+      led_on sender (one arrival is more) = grind (arith, handled_more, observed_more)
 
       seen_on : IsSeen tables (before ++ entry ∷ []) number call agreement
       seen_on = record {
@@ -371,9 +320,7 @@ module _ {A : Type 0} where
         let joins = connected_here tables before world entry next run (run_right tables before world run) step number first a connects in
         let none : relayed_in world entry.event ≡ None =
         ap (λ action. relayed_as action (relayed_by entry.event.line (call_on world entry.event.line) (packet_in entry.event.what))) joins.0.answers in
-        let empty : arrivals tables (before ++ entry ∷ []) number ≡ [] =
-        arrivals_still tables before world entry number (run_world tables before world run) (λ c by. let never : None ≡ Some c = sym none ∙ by in absurd (cc))
-        ∙ (run_unused tables before world run).unconnected number first there unagreed in
+        let empty : arrivals tables (before ++ entry ∷ []) number ≡ [] = grind (arith, arrivals_still, by, run_unused, run_world) in
         record {
           connecting = here tables before world entry next run step;
           connects = joins.0;

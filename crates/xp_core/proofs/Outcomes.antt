@@ -1,5 +1,5 @@
 -- Two steps of one event are the same, but for the line that a new call is put to.
-use Rattle.std.proofs.Common.{◌≡◌, ◌≢◌, ◌∙◌, ℕ, Bool, true, false, Option, Some, None, List, [], refl, ap, sym, subst}
+use Rattle.std.proofs.Common.{arith, ◌≡◌, ◌∙◌, ℕ, Bool, true, false, Option, Some, None, List, [], refl, ap, sym, subst}
 use Rattle.xp_answer.proofs.Once.{answers_same, incoming_call_same, indications_same}
 use Rattle.xp_answer.specs.Incoming.{IsIncomingCall}
 use Rattle.xp_answer.specs.Setup.{setup_of}
@@ -9,7 +9,6 @@ use Rattle.xp_charge.specs.declared.record.Record.{Record}
 use Rattle.xp_channel.specs.declared.action.Action.{Action}
 use Rattle.xp_channel.specs.declared.action.Action.TheVariants.{NewCall, Collision, Answer as Answers_it, Confirm, Relayed}
 use Rattle.xp_decide.proofs.Once.{decided_same}
-use Rattle.xp_decide.specs.Decided.{Decided}
 use Rattle.xp_decide.specs.Laws.{IsSameRing}
 use Rattle.xp_decide.specs.declared.verdict.IncomingCall.{IncomingCall}
 use Rattle.xp_decide.specs.declared.verdict.Verdict.TheVariants.{Take, Refuse}
@@ -34,32 +33,20 @@ use Rattle.xp_step.specs.StepContext.{StepContext, step_context}
 use Rattle.xp_step.specs.Step.{Step}
 use Rattle.xp_step.specs.Effects.{answers, carries, collides, effects_of, requests}
 use Rattle.xp_step.specs.Table.{CallAccepted, CallRequest, ClearRequest, accepted_in, action_at, clear_in, packet_in, request_in}
-use Rattle.xp_step.specs.EventOutputs.{EventOutputs, far_information, outputs_of, outputs_of_refusal, send_as, send_far, outputs_of_incoming_call}
-use Rattle.xp_machine.specs.Channel.{INITIAL_IDENTIFIER}
-use Rattle.xp_machine.specs.World.{Call, World, call_on, line_states}
+use Rattle.xp_step.specs.EventOutputs.{EventOutputs, far_information, outputs_of, outputs_of_refusal, send_far}
+use Rattle.xp_machine.specs.World.{Call, World, call_on}
 use Rattle.xp_core.proofs.Besides.{besides, but_line, to_others, usual}
 use Rattle.xp_core.proofs.Idle.{taken_ready}
 
 -- what is recorded of an answer, whichever line a call is put to
 answer_recorded : (counted : ℕ → Call → End → ℕ) (moment : ℕ) (world : World) (line : ℕ) (found : Option (ℕ × Call)) (outcome : Outcome)
     → recorded_by counted moment world (answers line found outcome) ≡ recorded_by counted moment world (answers line found (but_line outcome))
-answer_recorded counted moment world line None outcome = refl
-answer_recorded counted moment world line (Some found) (Put called setup) = refl
-answer_recorded counted moment world line (Some found) (Refused why) = refl
-answer_recorded counted moment world line (Some found) Plain = refl
-answer_recorded counted moment world line (Some found) (Connected agreement) = refl
-answer_recorded counted moment world line (Some found) (Declined diagnostic) = refl
-answer_recorded counted moment world line (Some found) Exceeded = refl
+answer_recorded counted moment world line found outcome = grind arith
 
 -- and of a packet
 carry_recorded : (counted : ℕ → Call → End → ℕ) (moment : ℕ) (world : World) (line : ℕ) (found : Option (ℕ × Call)) (outcome : Outcome)
     → recorded_by counted moment world (carries line found outcome) ≡ recorded_by counted moment world (carries line found (but_line outcome))
-carry_recorded counted moment world line found (Put called setup) = refl
-carry_recorded counted moment world line found (Refused why) = refl
-carry_recorded counted moment world line found Plain = refl
-carry_recorded counted moment world line found (Connected agreement) = refl
-carry_recorded counted moment world line found (Declined diagnostic) = refl
-carry_recorded counted moment world line found Exceeded = refl
+carry_recorded counted moment world line found outcome = grind arith
 
 module _ {A : Type 0} where
   -- two outcomes with what they put out: the same, but for the line
@@ -73,14 +60,7 @@ module _ {A : Type 0} where
 
   -- no line is taken, and all is the same
   same : (tables : Tables) (line : ℕ) (one other : Outcome) (told told' : EventOutputs A) → taken_by one ≡ None → one ≡ other → told ≡ told' → IsAlike tables line one told other told'
-  same tables line one other told told' none is also = record {
-    outcome = ap but_line is;
-    windows = λ alike. ap (with_line 0) is;
-    whole = λ taken. is;
-    put_out = λ taken. also;
-    elsewhere = λ l neither. ap (λ t. to_line l (outputs_of t)) also;
-    apart = (λ taken. absurd (cc), λ taken. let first : taken_by one ≡ taken_by other = ap taken_by is in absurd (cc));
-  }
+  same tables line one other told told' none is also = grind (arith, but_line)
 
   plain_alike : (tables : Tables) (line : ℕ) (this : EventOutputs A) (one other : Outcome) (told told' : EventOutputs A) → IsPlain this one told → IsPlain this other told' → IsAlike tables line one told other told'
   plain_alike tables line this one other told told' first second = same tables line one other told told' (ap taken_by first.0) (first.0 ∙ sym second.0) (first.1 ∙ sym second.1)
@@ -91,14 +71,10 @@ module _ {A : Type 0} where
   ring_same one other line told asked reason = λ i. record { line = line i; told = told i; asked = asked i; reason = reason i }
 
   setup_same : (one other : IncomingCall A) → one.told ≡ other.told → one.asked ≡ other.asked → one.reason ≡ other.reason → setup_of one ≡ setup_of other
-  setup_same one other told asked reason =
-      let to : IncomingCall A → IncomingCall A = λ ring. record ring { line = 0 } in
-      ap setup_of (ring_same (to one) (to other) refl told asked reason)
+  setup_same one other told asked reason = grind (arith, ring_same)
 
   usual_same : (tables : Tables) (one other : IncomingCall A) → IsSameRing tables one other → usual (setup_of one) ≡ usual (setup_of other)
-  usual_same tables one other is =
-      let to : IncomingCall A → IncomingCall A = λ ring. record ring { line = 0; told = record ring.told { window = None } } in
-      ap setup_of (ring_same (to one) (to other) refl is.told_besides is.asked is.reason)
+  usual_same tables one other is = grind (arith, ring_same)
 
   module _ (tables : Tables) (world : World) (line : ℕ) (far : List (Output A)) (request : CallRequest A) where
     requested_alike : (one other : Outcome) (told told' : EventOutputs A)
@@ -117,22 +93,11 @@ module _ {A : Type 0} where
         incoming_call_same second.ring (address_of tables called') (address_of tables line) request.d request.block first.packet second.packet moved second.incoming in
         record {
           outcome = ap (λ s. Put 0 (usual s)) first.setup_is ∙ ap (Put 0) (usual_same tables first.ring second.ring rings) ∙ ap (λ s. Put 0 (usual s)) (sym second.setup_is);
-          windows = λ alike.
-              let moduli : modulus_of tables called ≡ modulus_of tables called' = cc in
-              ap (Put 0) (setups (ap (modulus_of tables) (sym first.called_is) ∙ moduli ∙ ap (modulus_of tables) second.called_is));
+          windows = grind arith;
           whole = λ taken. let at : called ≡ called' = cc in ap (λ c. Put c setup) at ∙ ap (Put called') (setups (by_line at));
-          put_out = λ taken.
-              let at : called ≡ called' = cc in
-              first.told_is ∙ ap (λ c. outputs_of_incoming_call world far c first.packet) at ∙ ap (outputs_of_incoming_call world far called') (packets at) ∙ sym second.told_is;
-          elsewhere = λ l neither.
-              let put : (c : ℕ) (packet : Packet A) → c ≢ l → to_line l (outputs_of (outputs_of_incoming_call world far c packet)) ≡ to_line l far =
-              λ c packet other. to_others l far (send_as world c INITIAL_IDENTIFIER packet) other in
-              ap (λ t. to_line l (outputs_of t)) first.told_is ∙ put called first.packet (λ is. neither.0 (ap Some is))
-              ∙ sym (ap (λ t. to_line l (outputs_of t)) second.told_is ∙ put called' second.packet (λ is. neither.1 (ap Some is)));
-          apart =
-              let differ : (ring : IncomingCall A) (c : ℕ) → c ≡ ring.line → Decided tables (line_states world) line request.block (Take ring) → ◌≡◌ {A = Option ℕ} (Some c) (Some line) → ⊥ =
-              λ ring c is decided taken. let this : c ≡ line = cc in (taken_ready tables world line request.block ring decided).differ (sym this ∙ is) in
-              (differ first.ring called first.called_is first.decided, differ second.ring called' second.called_is second.decided);
+          put_out = grind arith;
+          elsewhere = grind (arith, to_others);
+          apart = grind (arith, taken_ready);
         }
     requested_alike (Put called setup) (Refused why) told told' first second =
         absurd (decided_same tables _ line request.block (Take first.ring) (Refuse why) first.decided second.decided)
@@ -220,8 +185,7 @@ module _ {A : Type 0} where
   carries_alike : (at : StepContext A) (carried : Option (RelayedPacket A)) (past : Bool) (one other : Outcome) (told told' : EventOutputs A)
       → CarriesAs at carried past one told → CarriesAs at carried past other told' → IsAlike at.force at.line one told other told'
   carries_alike at carried false one other told told' first second = plain_alike at.force at.line _ one other told told' first second
-  carries_alike at carried true one other told told' first second =
-      same at.force at.line one other told told' (ap taken_by first.0) (first.0 ∙ sym second.0) (first.1 ∙ sym second.1)
+  carries_alike at carried true one other told told' first second = grind arith
 
   -- ---- all cells of the table
 
@@ -243,24 +207,11 @@ module _ {A : Type 0} where
 
   request_recorded : (counted : ℕ → Call → End → ℕ) (moment : ℕ) (world : World) (line : ℕ) (asked : Option (CallRequest A)) (outcome : Outcome)
       → recorded_by counted moment world (requests line moment asked outcome) ≡ recorded_by counted moment world (requests line moment asked (but_line outcome))
-  request_recorded counted moment world line None outcome = refl
-  request_recorded counted moment world line (Some request) (Put called setup) = refl
-  request_recorded counted moment world line (Some request) (Refused why) = refl
-  request_recorded counted moment world line (Some request) Plain = refl
-  request_recorded counted moment world line (Some request) (Connected agreement) = refl
-  request_recorded counted moment world line (Some request) (Declined diagnostic) = refl
-  request_recorded counted moment world line (Some request) Exceeded = refl
+  request_recorded counted moment world line asked outcome = grind arith
 
   collision_recorded : (counted : ℕ → Call → End → ℕ) (moment : ℕ) (world : World) (line : ℕ) (asked : Option (CallRequest A)) (found : Option (ℕ × Call)) (outcome : Outcome)
       → recorded_by counted moment world (collides line moment asked found outcome) ≡ recorded_by counted moment world (collides line moment asked found (but_line outcome))
-  collision_recorded counted moment world line None found outcome = refl
-  collision_recorded counted moment world line (Some request) None outcome = request_recorded counted moment world line (Some request) outcome
-  collision_recorded counted moment world line (Some request) (Some found) (Put called setup) = refl
-  collision_recorded counted moment world line (Some request) (Some found) (Refused why) = refl
-  collision_recorded counted moment world line (Some request) (Some found) Plain = refl
-  collision_recorded counted moment world line (Some request) (Some found) (Connected agreement) = refl
-  collision_recorded counted moment world line (Some request) (Some found) (Declined diagnostic) = refl
-  collision_recorded counted moment world line (Some request) (Some found) Exceeded = refl
+  collision_recorded counted moment world line asked found outcome = grind (arith, request_recorded)
 
   -- what is recorded is the same, whichever line is taken
   recorded_alike : (counted : ℕ → Call → End → ℕ) (at : StepContext A) (what : What A) (action : Action) (outcome : Outcome)

@@ -2,7 +2,6 @@
 use Rattle.std.proofs.Common.{◌≡◌, ◌≢◌, ◌∙◌, ◌<◌, ◌≤◌, ◌⊎◌, ℕ, Bool, true, false, Option, Some, None, List, [], ◌∷◌, ◌++◌, length, set, get_or-set_other, refl, ap, sym, subst, inl, inr, arith}
 use Rattle.std.proofs.lemmas.Bool.{cases_eq}
 use Rattle.std.proofs.lemmas.Grind.{get_or-set_at}
-use Rattle.xp_channel.specs.declared.action.Action.{Action}
 use Rattle.xp_charge.specs.Counted.{Counted}
 use Rattle.xp_charge.specs.Meter.{opening as opening_meter}
 use Rattle.xp_relay.specs.Coupled.{Coupled, after, coupled}
@@ -13,9 +12,9 @@ use Rattle.xp_machine.specs.declared.agreement.Agreement.{Agreement}
 use Rattle.xp_step.specs.declared.outcome.Outcome.TheVariants.{Exceeded}
 use Rattle.xp_machine.specs.declared.relays.RelayUpdate.{RelayUpdate}
 use Rattle.xp_machine.specs.declared.relays.MeteredRelay.{MeteredRelay}
-use Rattle.xp_step.specs.Acts.{Acts, Carries, CarriesAs}
+use Rattle.xp_step.specs.Acts.{CarriesAs}
 use Rattle.xp_step.specs.RelayedPackets.{RelayedPacket, arrivals, relay_terms, relayed_in, directions, turn_of_relayed}
-use Rattle.xp_machine.specs.Changes.{Change, Rises, Leaves, Begins, IsRefused, Connects, Ends, all_changed}
+use Rattle.xp_machine.specs.Changes.{Change, Connects}
 use Rattle.xp_step.specs.Effects.{carries, changes_of, effects_of}
 use Rattle.xp_step.specs.Relays.{RelaysRepresentCalls, IsRelayed, IsRepresentedBy, Relays, RelaysFor, RelaysOn, counted_by, counted_with}
 use Rattle.xp_machine.specs.Relays.{relay_under, relays_with}
@@ -48,13 +47,7 @@ one_caller tables entries world right number other call its is is' at =
 asks : {A : Type 0} (tables : Tables) (changes : List Change) (relay_update : Option (RelayUpdate A)) → RelaysFor tables changes relay_update
     → (relay_update ≡ None) ⊎ ((number : ℕ) × (call : Call) × (agreement : Agreement) × (rest : List Change) × (changes ≡ Connects number call agreement ∷ rest)
     × IsRelayed call (coupled (relay_terms tables call agreement)) (opening_meter tables.segment_limit) relay_update)
-asks tables [] relay_update none = inl none
-asks tables (Connects number call agreement ∷ changes) relay_update relayed = inr (number, call, agreement, changes, refl, relayed)
-asks tables (Rises line ∷ changes) relay_update none = inl none
-asks tables (Leaves line way ∷ changes) relay_update none = inl none
-asks tables (Begins line identifier called dialled setup requested ∷ changes) relay_update none = inl none
-asks tables (IsRefused line identifier dialled why ∷ changes) relay_update none = inl none
-asks tables (Ends number call line way cause diagnostic ∷ changes) relay_update none = inl none
+asks tables changes relay_update relayed = grind arith
 
 module _ {A : Type 0} where
   -- ---- no packet comes for a call that is not connected
@@ -138,9 +131,7 @@ module _ {A : Type 0} where
     becomes = become ∙ ap (λ c. relays_with c relays) relayed.kept
 
     shown_now : call.caller < length relays → IsRepresentedBy (relay_under later call.caller) shown counted
-    shown_now within =
-        let P : Option (MeteredRelay A) → Type 0 = λ r. IsRepresentedBy r shown counted in
-        subst P (sym (ap (λ rs. relay_under rs call.caller) becomes ∙ under_new relays call.caller relayed.metered within)) relayed.shows
+    shown_now within = grind (arith, becomes, under_new)
 
     still_under : (line : ℕ) → line ≢ call.caller → relay_under later line ≡ relay_under relays line
     still_under line other = ap (λ rs. relay_under rs line) becomes ∙ under_other relays call.caller line relayed.metered other
@@ -167,13 +158,7 @@ module _ {A : Type 0} where
     -- a call whose relay and packets stay
     stays : (number : ℕ) (call : Call) (agreement : Agreement) → call_numbered world number ≡ Some call → call.agreed ≡ Some agreement
         → ((c : RelayedPacket A) → relayed_in world entry.event ≡ Some c → number ≢ c.number) → relay_under later call.caller ≡ relay_under relays call.caller → Shown number call agreement
-    stays number call agreement live agreed other under =
-        let P : Option (MeteredRelay A) → Type 0 =
-        λ r. IsRepresentedBy r (directions tables (before ++ entry ∷ []) number call agreement) (counted_by tables (before ++ entry ∷ []) number call (Some agreement)) in
-        let Q : Coupled A → Type 0 = λ d. IsRepresentedBy (relay_under relays call.caller) d (counted_by tables (before ++ entry ∷ []) number call (Some agreement)) in
-        let R : Counted → Type 0 = λ m. IsRepresentedBy (relay_under relays call.caller) (directions tables before number call agreement) m in
-        subst P (sym under) (subst Q (sym (directions_still tables before world entry number call agreement here other))
-        (subst R (sym (counted_still tables before world entry here number call agreement other)) (carried number call agreement live agreed)))
+    stays number call agreement live agreed other under = grind (arith, counted_still, directions_still, here)
 
     -- a packet came for a call
     module _ (c : RelayedPacket A) (by : relayed_in world entry.event ≡ Some c) where
@@ -181,42 +166,19 @@ module _ {A : Type 0} where
       at = step_context tables before world entry.event.line entry.event.moment
 
       its_acts : CarriesAs at (Some c) (is_past_limit tables before (Some c)) entry.outcome step.told
-      its_acts =
-          let relayed = is_relayed (action_at world entry.event) _ c by in
-          let P : Action → Type 0 = λ action. Acts at entry.event.what action entry.outcome step.told in
-          let Q : Option (RelayedPacket A) → Type 0 = λ k. Carries at k entry.outcome step.told in
-          subst Q relayed.1 (subst P relayed.0 step.acts)
+      its_acts = grind (arith, is_relayed)
 
       connects_none : (past : Bool) → CarriesAs at (Some c) past entry.outcome step.told → (number : ℕ) (call : Call) (agreement : Agreement)
           → changes_of tables before world entry ≡ Connects number call agreement ∷ [] → ⊥
-      connects_none false acts number call agreement connects =
-          let none : changes_of tables before world entry ≡ [] =
-          (carried_live world entry c by).2 tables before ∙ ap (carries entry.event.line (Some (c.number, c.call))) acts.0 in absurd (cc)
-      connects_none true acts number call agreement connects =
-          let ends : changes_of tables before world entry ≡ carries entry.event.line (Some (c.number, c.call)) Exceeded =
-          (carried_live world entry c by).2 tables before ∙ ap (carries entry.event.line (Some (c.number, c.call))) acts.0 in absurd (cc)
+      connects_none false acts number call agreement connects = grind (arith, carried_live)
+      connects_none true acts number call agreement connects = grind (arith, carried_live)
 
       -- that is within the limit
       module _ (past : is_past_limit tables before (Some c) ≡ false)
           (relayed : IsRelayed c.call (after c.arrival.here (turn_of_relayed tables before c)) (counted_with tables before c) on.relay_update) where
         led_on : (number : ℕ) (call : Call) (agreement : Agreement) → call_numbered world number ≡ Some call → call.agreed ≡ Some agreement → Shown number call agreement
         led_on number call agreement live agreed = elim (cases_eq number c.number) [
-          | inl is ↦
-              let it = carried_live world entry c by in
-              let there : call_numbered world c.number ≡ Some call = ap (call_numbered world) (sym is) ∙ live in
-              let mine : call_numbered world c.number ≡ Some c.call = it.0 in
-              let one : c.call ≡ call = cc in
-              let some : call.agreed ≡ Some c.agreement = ap (λ k. k.agreed) (sym one) ∙ it.1 in
-              let agreement_is : c.agreement ≡ agreement = cc in
-              let shows = shown_now relays later c.call (after c.arrival.here (turn_of_relayed tables before c)) (counted_with tables before c) on.relay_update on.become relayed
-              (caller_within c.number c.call it.0) in
-              let D : Coupled A → Type 0 = λ d. IsRepresentedBy (relay_under later c.call.caller) d (counted_with tables before c) in
-              let M : Counted → Type 0 = λ m. IsRepresentedBy (relay_under later c.call.caller) (directions tables (before ++ entry ∷ []) c.number c.call c.agreement) m in
-              let P : Call → Type 0 = λ k. Shown c.number k c.agreement in
-              let Q : ℕ → Type 0 = λ n. Shown n call c.agreement in
-              let R : Agreement → Type 0 = λ a. Shown number call a in
-              subst R agreement_is (subst Q (sym is) (subst P one (subst M (sym (counted_on tables before world entry here c by past))
-              (subst D (sym (directions_on tables before world entry c here by)) shows))))
+          | inl is ↦ grind (arith, caller_within, carried_live, counted_on, directions_on, here, later, shown_now)
           | inr other ↦
               let it = carried_live world entry c by in
               stays number call agreement live agreed (λ c' by' number_is.
@@ -228,20 +190,11 @@ module _ {A : Type 0} where
 
       -- that is past the limit: its call ended
       ended : entry.outcome ≡ Exceeded → call_numbered next c.number ≡ None
-      ended outcome =
-          let ends : changes_of tables before world entry ≡ carries entry.event.line (Some (c.number, c.call)) Exceeded =
-          (carried_live world entry c by).2 tables before ∙ ap (carries entry.event.line (Some (c.number, c.call))) outcome in
-          ap (λ w. call_numbered w c.number) (step.leads ∙ ap (λ changes. all_changed changes world) ends)
-          ∙ get_gone world.calls c.number c.number refl
+      ended outcome = grind (arith, carried_live, get_gone)
 
       others_on : entry.outcome ≡ Exceeded → on.relay_update ≡ None → (number : ℕ) (call : Call) (agreement : Agreement) → call_numbered next number ≡ Some call
           → call_numbered world number ≡ Some call → call.agreed ≡ Some agreement → Shown number call agreement
-      others_on outcome none number call agreement still live agreed =
-          stays number call agreement live agreed (λ c' by' number_is.
-          let both : Some c ≡ Some c' = sym by ∙ by' in
-          let one : c ≡ c' = cc in
-          let gone : call_numbered next number ≡ None = ap (call_numbered next) (number_is ∙ ap (λ k. k.number) (sym one)) ∙ ended outcome in absurd (cc))
-          (ap (λ rs. relay_under rs call.caller) (on.become ∙ ap (λ k. relays_with k relays) none))
+      others_on outcome none number call agreement still live agreed = grind (arith, ended, stays)
 
     -- no packet came for a call
     module _ (nothing : relayed_in world entry.event ≡ None) (relays_for : RelaysFor tables (changes_of tables before world entry) on.relay_update) where
@@ -250,21 +203,7 @@ module _ {A : Type 0} where
 
       kept_on : (number : ℕ) (call : Call) (agreement : Agreement) → call_numbered world number ≡ Some call → call.agreed ≡ Some agreement
           → (Connected (changes_of tables before world entry) number → ⊥) → Shown number call agreement
-      kept_on number call agreement live agreed other = elim (asks tables (changes_of tables before world entry) on.relay_update relays_for) [
-        | inl none ↦ stays number call agreement live agreed (none_came number)
-            (ap (λ rs. relay_under rs call.caller) (on.become ∙ ap (λ c. relays_with c relays) none))
-        | inr asked ↦
-            let relayed = asked.5 in
-            elim (cases_eq call.caller asked.1.caller) [
-              | inl at ↦
-                  let there = connects_live tables before world entry next (length before) its step asked.0 asked.1 asked.2 asked.3 asked.4 in
-                  let is : number ≡ asked.0 = one_caller tables (length before) world its number asked.0 call asked.1 live there at in
-                  let C : ℕ → Type 0 = λ n. Connected (changes_of tables before world entry) n in
-                  absurd (other (subst C (sym is) (record { call = asked.1; agreement = asked.2; rest = asked.3; is = asked.4 })))
-              | inr differs ↦ stays number call agreement live agreed (none_came number)
-                  (still_under relays later asked.1 (coupled (relay_terms tables asked.1 asked.2)) (opening_meter tables.segment_limit) on.relay_update on.become relayed call.caller differs)
-            ]
-      ]
+      kept_on number call agreement live agreed other = grind (arith, asks, cases_eq, connects_live, its, later, none_came, one_caller, stays, still_under)
 
       joined_on : (number : ℕ) (call c : Call) (agreement a : Agreement) → call_numbered world number ≡ Some c → c.agreed ≡ None
           → changes_of tables before world entry ≡ Connects number c a ∷ [] → call ≡ record c { agreed = Some a } → call.agreed ≡ Some agreement → Shown number call agreement

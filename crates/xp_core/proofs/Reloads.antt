@@ -1,5 +1,5 @@
 -- A reload as an event that is entered.
-use Rattle.std.proofs.Common.{◌≡◌, ◌∙◌, ℕ, ◌<◌, IfOk, OnErr, OnOk, Result, Ok, Err, Option, None, List, [], ◌∷◌, ◌++◌, length, refl, ap, sym, subst, append-nil}
+use Rattle.std.proofs.Common.{arith, ◌≡◌, ◌∙◌, ℕ, ◌<◌, IfOk, OnErr, OnOk, Result, Ok, Err, Option, None, List, [], ◌∷◌, ◌++◌, length, refl, ap, sym, subst, append-nil}
 use Rattle.xp_charge.specs.declared.record.Record.{Record}
 use Rattle.xp_subs.specs.Tables.{Tables}
 use Rattle.xp_step.specs.declared.entry.Entry.{Entry}
@@ -12,8 +12,7 @@ use Rattle.xp_core.specs.steps.PreparedEntry.{Enters}
 use Rattle.xp_reload.specs.Frame.{IsSameFrame}
 use Rattle.xp_subs.specs.Sound.{IsSound}
 use Rattle.xp_core.specs.steps.Reload.{IsReloadEntry}
-use Rattle.xp_step.specs.EventOutputs.{no_outputs}
-use Rattle.xp_step.specs.InForce.{MayFollow, brought_by, force_of, in_force, last_of}
+use Rattle.xp_step.specs.InForce.{MayFollow, brought_by, force_of, in_force}
 use Rattle.xp_step.specs.Step.{Step}
 use Rattle.xp_step.specs.Exchange.{Advances, Exchange}
 use Rattle.xp_core.proofs.Showing.{exchange_of, outcome_advances, outcome_shows}
@@ -26,16 +25,7 @@ module _ {A : Type 0} where
       → 0 < length world.lines → entries ≡ history ++ entry ∷ [] → charged ≡ waiting → Enters tables world relays history waiting (reload_at moment) world relays entries charged entry
   reload_enters tables world relays history waiting moment next entries charged entry is may some_line grown same =
       let S : Event A → Type 0 = λ event. Step tables history world (record entry { event = event }) world in
-      let step : S (reload_at moment) = record {
-        number = is.number;
-        line = some_line;
-        told = no_outputs;
-        acts = (is.plain, refl);
-        brought = (next, is.brought, may);
-        outputs = is.outputs;
-        records = is.records;
-        leads = refl;
-      } in
+      let step : S (reload_at moment) = grind arith in
       record {
         event_is = is.event;
         step = subst S (sym is.event) step;
@@ -48,19 +38,13 @@ module _ {A : Type 0} where
   pub kept_on : {E : Type 0} (subs now : SubsInForce) (history entries : List (Entry A)) (next : Tables) (outcome : Result (Entry A) E) → force_of subs ≡ in_force subs.opening history
       → now.opening ≡ subs.opening → IfOk outcome (λ entry. entry.tables.items ≡ next ∷ []) → IfOk outcome (λ entry. entries ≡ history ++ entry ∷ []) → OnOk outcome (force_of now ≡ next)
       → OnErr outcome (now ≡ subs) → OnErr outcome (entries ≡ history) → force_of now ≡ in_force now.opening entries
-  kept_on subs now history entries next (Ok entry) before opening brought grown comes same unchanged =
-      comes ∙ sym (ap (λ t. in_force t entries) opening ∙ ap (in_force subs.opening) grown ∙ in_force_on subs.opening history entry ∙ ap (last_of (in_force subs.opening history)) brought)
-  kept_on subs now history entries next (Err fault) before opening brought grown comes same unchanged =
-      ap force_of same ∙ before ∙ sym (ap (λ s. in_force s.opening entries) same ∙ ap (in_force subs.opening) unchanged)
+  kept_on subs now history entries next outcome before opening brought grown comes one unchanged = grind (arith, in_force_on)
 
   -- and after an event of a line
   pub kept_still : {E : Type 0} (subs : SubsInForce) (history entries : List (Entry A)) (event : Event A) (outcome : Result (Entry A) E) → force_of subs ≡ in_force subs.opening history
       → IfOk outcome (λ entry. entry.tables.items ≡ brought_by event.what (force_of subs)) → IfOk outcome (λ entry. entries ≡ history ++ entry ∷ []) → OnErr outcome (entries ≡ history)
       → force_of subs ≡ in_force subs.opening entries
-  kept_still subs history entries event (Ok entry) before brought grown unchanged =
-      before ∙ sym (ap (in_force subs.opening) grown ∙ in_force_on subs.opening history entry ∙ ap (last_of (in_force subs.opening history)) brought
-      ∙ ap (λ t. last_of (in_force subs.opening history) (brought_by event.what t)) before ∙ last_again (in_force subs.opening history) event.what)
-  kept_still subs history entries event (Err fault) before brought grown unchanged = before ∙ sym (ap (in_force subs.opening) unchanged)
+  kept_still subs history entries event outcome before brought grown unchanged = grind (arith, in_force_on, last_again)
 
   pub kept_frame : (subs : SubsInForce) (history : List (Entry A)) (machine : World) (relays : List (Option (MeteredRelay A))) (records : List Record)
       → IsKept subs history machine relays records → IsSameFrame subs.opening (force_of subs)
@@ -84,11 +68,7 @@ module _ {A : Type 0} where
           | Ok entry ↦ λ has done same same_waiting.
               let it : Result (Entry A) E = Ok entry in
               outcome_shows subs.opening history machine relays given waiting (reload_at moment) machine relays entries kept charged it shows tt has done tt tt tt same_given tt
-          | Err fault ↦ λ has done same same_waiting.
-              let Q : List (Entry A) → Type 0 = λ h. CoreInvariant subs.opening h machine relays (kept ++ charged) in
-              let G : List Record → Type 0 = λ r. CoreInvariant subs.opening history machine relays (r ++ charged) in
-              let R : List Record → Type 0 = λ r. CoreInvariant subs.opening history machine relays (given ++ r) in
-              subst Q (sym same) (subst G (sym same_given) (subst R (sym same_waiting) shows))
+          | Err fault ↦ grind arith
         ] room done same same_waiting
 
     pub reload_advances : (old : Exchange A) (stalls left : ℕ) → CoreInvariant subs.opening history machine relays (given ++ waiting) → OnOk outcome (length history < subs.opening.journal)

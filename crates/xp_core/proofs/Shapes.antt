@@ -1,5 +1,5 @@
 -- What a step does: nothing, one change that can be made, or, in a collision, the end of the incoming call and then one.
-use Rattle.std.proofs.Common.{◌≡◌, ◌≢◌, ◌⊎◌, ℕ, ◌<◌, eqb, Bool, true, false, Option, Some, None, List, [], ◌∷◌, length, refl, ap, sym, subst, ◌∙◌, inl, inr, arith, length-set}
+use Rattle.std.proofs.Common.{◌≡◌, ◌≢◌, ◌⊎◌, ℕ, ◌<◌, Bool, true, false, Option, Some, None, List, [], ◌∷◌, length, refl, ap, sym, subst, ◌∙◌, inl, inr, arith, length-set}
 use Rattle.std.proofs.lemmas.Bool.{eq-eqb, ne_eqb, cond-true, cond-false}
 use Rattle.xp_answer.specs.ForwardedClear.{block_with}
 use Rattle.xp_answer.specs.declared.setup.Setup.{Setup}
@@ -22,7 +22,7 @@ use Rattle.xp_step.specs.Acts.{Acts, Answers, CarriesAs, Confirms, IsAnswered, I
 use Rattle.xp_step.specs.RelayedPackets.{RelayedPacket, relayed_by}
 use Rattle.xp_machine.specs.Changes.{Change, Rises, Leaves, Begins, IsRefused, Connects, Ends, NoCallState, GoesOut, IsFree, IsCleared, changed}
 use Rattle.xp_machine.specs.Channel.{Cleared, INITIAL_IDENTIFIER, Ready, Ringing, call_of}
-use Rattle.xp_machine.specs.Coupling.{AreCoupled, IsHeld}
+use Rattle.xp_machine.specs.Coupling.{AreCoupled}
 use Rattle.xp_core.specs.Records.{clears_to}
 use Rattle.xp_step.specs.InForce.{in_force}
 use Rattle.xp_step.specs.StepContext.{StepContext, step_context}
@@ -36,7 +36,7 @@ use Rattle.xp_core.proofs.Clears.{both_told, collision_refused, collision_taken,
 use Rattle.xp_machine.proofs.Coupled.{CanBe, IsIn, IsOut, far_shows, far_within, line_within}
 use Rattle.xp_core.proofs.Idle.{IsReadyFor, taken_ready}
 use Rattle.xp_machine.proofs.InCall.{end_of, none_on, shown_on}
-use Rattle.xp_machine.proofs.Lines.{Twice, late, early, never, twice}
+use Rattle.xp_machine.proofs.Lines.{Twice, twice}
 
 -- a call request is decided
 abbrev pub IsNew : Action → Type 0
@@ -114,14 +114,7 @@ module _ {A : Type 0} (tables : Tables) (before : List (Entry A)) (world : World
         record { live = shown.1; shows = shown.0; end = end_of tables world coupled line found.0 found.1 shown.0 shown.1 }
 
     far_differs : far_end found.1 line ≢ line
-    far_differs same = elim in_call.end [
-      | inl caller ↦ held.two (sym caller ∙ sym same ∙ cond-true (eqb found.1.caller line) found.1.called found.1.caller (eq-eqb found.1.caller line (sym caller)))
-      | inr called ↦
-          let other : found.1.caller ≢ line = λ e. held.two (e ∙ called) in
-          other (sym (cond-false (eqb found.1.caller line) found.1.called found.1.caller (ne_eqb found.1.caller line other)) ∙ same)
-    ] where
-      held : IsHeld tables world found.0 found.1
-      held = coupled.held found.0 found.1 in_call.live
+    far_differs same = grind (arith, cond-false, cond-true, eq-eqb, ne_eqb)
 
     near_differs : line ≢ far_end found.1 line
     near_differs same = far_differs (sym same)
@@ -177,25 +170,13 @@ module _ {A : Type 0} (tables : Tables) (before : List (Entry A)) (world : World
 
   answering : (what : What A) (outcome : Outcome) (told : EventOutputs A) (accepted : Option (CallAccepted A)) (found : Option (ℕ × Call)) → call_on world line ≡ found
       → Answers here accepted found outcome told → Shape here what Answer outcome told (answers line found outcome)
-  answering what outcome told accepted None is acts = none refl (λ request asks new. not_new new) where
-    not_new : IsNew Answer → ⊥
-    not_new (inl e) = absurd (cc)
-    not_new (inr e) = absurd (cc)
-  answering what outcome told None (Some found) is acts = none (nothing outcome acts.0) (λ request asks new. not_new new) where
-    nothing : (o : Outcome) → o ≡ Plain → answers line (Some found) o ≡ []
-    nothing o plain = ap (answers line (Some found)) plain
-
-    not_new : IsNew Answer → ⊥
-    not_new (inl e) = absurd (cc)
-    not_new (inr e) = absurd (cc)
+  answering what outcome told accepted None is acts = grind arith
+  answering what outcome told None (Some found) is acts = grind arith
   answering what outcome told (Some answer) (Some found) is acts = answering_one what outcome told answer found is acts
 
   confirming : (what : What A) (outcome : Outcome) (told : EventOutputs A) (clear : Option (ClearRequest A)) (found : Option (ℕ × Call)) → call_on world line ≡ found
       → Confirms here clear found outcome told → Shape here what Confirm outcome told (confirms line clear found)
-  confirming what outcome told None found is acts = none refl (λ request asks new. not_new new) where
-    not_new : IsNew Confirm → ⊥
-    not_new (inl e) = absurd (cc)
-    not_new (inr e) = absurd (cc)
+  confirming what outcome told None found is acts = grind arith
   confirming what outcome told (Some clear) None is acts =
       leaving what Confirm outcome told IsFree (indicated_cause clear.cause) (indicated_diagnostic clear.diagnostic) None is not_new (λ found shows. absurd (cc)) where
         not_new : IsNew Confirm → ⊥
@@ -265,35 +246,16 @@ module _ {A : Type 0} (tables : Tables) (before : List (Entry A)) (world : World
     freed = record (line_at world line) { state = Ready }
 
     became : (l : ℕ) → Twice world.lines (far_end found.1 line) cleared line freed l
-    became l = twice world.lines (far_end found.1 line) cleared line freed l
-        (far_within tables world coupled lines found.0 found.1 line (in_call found is)) (line_within tables world coupled lines found.0 found.1 line (in_call found is))
+    became l = grind (arith, far_within, line_within, twice)
 
     mid_count : length mid.lines ≡ length world.lines
     mid_count = length-set _ line _ ∙ length-set world.lines (far_end found.1 line) _
 
     line_out : IsOut mid line
-    line_out = record {
-      within = omega (arith, mid_count, within);
-      none = elim (became line) [
-        | late same now ↦ ap (λ k. call_of k.state) now
-        | early same now ↦ absurd (near_differs found is same)
-        | never not_far not_near now ↦ absurd (not_near refl)
-      ];
-    }
+    line_out = grind (arith, became, mid_count, near_differs)
 
     other_out : (called : ℕ) → IsReadyFor world line called → IsOut mid called
-    other_out called ready = record {
-      within = omega (arith, mid_count, ready.within);
-      none = elim (became called) [
-        | late same now ↦ absurd (ready.differ (sym same))
-        | early same now ↦
-            let rings : call_of (state_at world called) ≡ Some found.0 =
-            ap (λ l. call_of (state_at world l)) same ∙ far_shows tables world coupled lines found.0 found.1 line (in_call found is) in
-            let idle : call_of (state_at world called) ≡ None = ap call_of ready.ready in
-            absurd (cc)
-        | never not_far not_near now ↦ ap (λ k. call_of k.state) now ∙ ap call_of ready.ready
-      ];
-    }
+    other_out called ready = grind (arith, became, far_shows, mid_count)
 
     colliding_in : (what : What A) (outcome : Outcome) (told : EventOutputs A) (request : CallRequest A) → request_in what ≡ Some request
         → IsRequested (in_force tables before) world line (outputs_of_cancel world line) request outcome told → Shape here what Collision outcome told (collides line moment (Some request) (Some found) outcome)
@@ -321,18 +283,14 @@ module _ {A : Type 0} (tables : Tables) (before : List (Entry A)) (world : World
       → (number : ℕ) × (state_at world line ≡ Ringing number)
       → Requests (in_force tables before) world line (outputs_of_cancel world line) asked outcome told → Shape here what Collision outcome told (collides line moment asked found outcome)
   colliding what outcome told None found asks is rings acts = none refl (λ request asked new. absurd (cc))
-  colliding what outcome told (Some request) None asks is rings acts =
-      let none : call_of (state_at world line) ≡ None = none_on tables world coupled line is in
-      let some : call_of (state_at world line) ≡ Some rings.0 = ap call_of rings.1 in
-      absurd (cc)
+  colliding what outcome told (Some request) None asks is rings acts = grind (arith, none_on)
   colliding what outcome told (Some request) (Some found) asks is rings acts = colliding_in found is what outcome told request asks acts
 
   -- ---- a packet of a line in data transfer
 
   relaying : (what : What A) (carried : Option (RelayedPacket A)) (past : Bool) (outcome : Outcome) (told : EventOutputs A) → CarriesAs here carried past outcome told
       → Shape here what Relayed outcome told (carries line (call_on world line) outcome)
-  relaying what carried false outcome told acts =
-      none (ap (carries line (call_on world line)) acts.0) (λ request asks new. elim new [ inl e ↦ absurd (cc) | inr e ↦ absurd (cc) ])
+  relaying what carried false outcome told acts = grind arith
   relaying what carried true outcome told acts =
       let S : Outcome → Type 0 = λ o. Shape here what Relayed o told (carries line (call_on world line) o) in
       subst S (sym acts.0) (clearing what Relayed Exceeded told NETWORK_CONGESTION NETWORK_CONGESTION NO_ADDITIONAL_INFORMATION

@@ -11,14 +11,12 @@ use Rattle.xp_subs.specs.Tables.{Tables, line_count}
 use Rattle.xp_core.specs.declared.advance.PreparedEntry.{PreparedEntry}
 use Rattle.xp_step.specs.declared.entry.Entry.{Entry}
 use Rattle.xp_step.specs.declared.event.Event.{Event}
-use Rattle.xp_step.specs.declared.outcome.Outcome.{Outcome}
 use Rattle.xp_step.specs.declared.plan.Plan.{Plan}
 use Rattle.xp_machine.specs.declared.relays.RelayUpdate.{RelayUpdate}
 use Rattle.xp_machine.specs.declared.relays.MeteredRelay.{MeteredRelay}
 use Rattle.xp_step.specs.Agreed.{AllHaveTerms}
-use Rattle.xp_step.specs.Exchange.{Advances, Exchange, IsReadable, world_of}
+use Rattle.xp_step.specs.Exchange.{Advances, Exchange, IsReadable}
 use Rattle.xp_step.specs.Plan.{Plans, applied_by}
-use Rattle.xp_core.specs.Records.{records_of}
 use Rattle.xp_step.specs.Relays.{RelaysRepresentCalls}
 use Rattle.xp_machine.specs.Relays.{relays_with}
 use Rattle.xp_core.specs.Lines.{HasLines}
@@ -27,7 +25,6 @@ use Rattle.xp_past.specs.declared.past.Past.{Past}
 use Rattle.xp_step.specs.InForce.{Brings, in_force}
 use Rattle.xp_step.specs.StepContext.{step_context}
 use Rattle.xp_core.specs.steps.CoreInvariant.{CoreInvariant}
-use Rattle.xp_step.specs.Step.{Step}
 use Rattle.xp_step.specs.Table.{action_at}
 use Rattle.xp_core.specs.steps.PreparedEntry.{Enters, RelaysAdvance, IsPreparedEntry}
 use Rattle.xp_machine.specs.World.{World, call_numbered, opening}
@@ -40,8 +37,7 @@ use Rattle.xp_step.proofs.RunLemmas.{run_push}
 use Rattle.xp_core.proofs.Worlds.{run_world}
 
 places_kept : {A : Type 0} (relay_update : Option (RelayUpdate A)) (relays later : List (Option (MeteredRelay A))) → later ≡ relays_with relay_update relays → length later ≡ length relays
-places_kept None relays later is = ap length is
-places_kept (Some relay_update) relays later is = ap length is ∙ length-set relays relay_update.caller (Some relay_update.metered)
+places_kept relay_update relays later is = grind (arith, length-set)
 
 module _ {A : Type 0} where
   -- what was planned and applied
@@ -49,17 +45,7 @@ module _ {A : Type 0} where
       (relays later : List (Option (MeteredRelay A))) → Plans (step_context tables before old event.line event.moment) event.what (action_at old event) plan
       → work.outcome ≡ plan.outcome → work.outputs ≡ plan.outputs.outputs → work.records ≡ plan.records
       → new ≡ applied_by plan old → later ≡ relays_with plan.relay_update relays → IsPreparedEntry tables before old relays event work new later
-  works_out tables before old event plan work new relays later plans outcome outputs records applied relayed =
-      let made : IsPreparedEntry tables before old relays event (record work { outcome = plan.outcome }) new later = record {
-        told = plans.told;
-        acts = plans.acts;
-        outputs = outputs ∙ plans.planned.outputs;
-        records = ap (λ r. r.items) records ∙ plans.planned.records;
-        relays_on = record { relay_update = plan.relay_update; is = plans.relays; become = relayed };
-        leads = applied ∙ plans.planned.does;
-      } in
-      let P : Outcome → Type 0 = λ o. IsPreparedEntry tables before old relays event (record work { outcome = o }) new later in
-      subst P (sym outcome) made
+  works_out tables before old event plan work new relays later plans outcome outputs records applied relayed = grind arith
 
   -- and entered
   pub enters : (tables : Tables) (old : World) (relays : List (Option (MeteredRelay A))) (history : List (Entry A)) (waiting : List Record) (event : Event A) (work : PreparedEntry A)
@@ -70,25 +56,7 @@ module _ {A : Type 0} where
       → event.line < length old.lines
       → entries ≡ history ++ entry ∷ [] → charged ≡ waiting ++ work.records.items
       → Enters tables old relays history waiting event new later entries charged entry
-  enters tables old relays history waiting event work new later entries charged entry brought works is brings line grown recorded =
-      let made : Entry A = record { number = length history + 1; event = event; outcome = work.outcome; outputs = work.outputs; records = work.records; tables = brought } in
-      let P : Entry A → Type 0 = λ e. Enters tables old relays history waiting event new later entries charged e in
-      subst P (sym is) (record {
-        event_is = refl;
-        step = record {
-          number = refl;
-          line = line;
-          told = works.told;
-          acts = works.acts;
-          brought = brings;
-          outputs = works.outputs;
-          records = works.records;
-          leads = works.leads;
-        };
-        relays_on = works.relays_on;
-        grown = grown ∙ ap (λ e. history ++ e ∷ []) is;
-        recorded = recorded;
-      })
+  enters tables old relays history waiting event work new later entries charged entry brought works is brings line grown recorded = grind arith
 
   module _ (tables : Tables) (history : List (Entry A)) (machine : World) (relays : List (Option (MeteredRelay A))) (given waiting : List Record) (shows : CoreInvariant tables history machine relays (given ++ waiting))
       (event : Event A) (readable : IsReadable event.what) (room : length history < tables.journal) (new : World) (later : List (Option (MeteredRelay A))) (entries : List (Entry A)) (charged : List Record) (entry : Entry A)
@@ -115,9 +83,7 @@ module _ {A : Type 0} where
           shown = run_world tables (history ++ entry ∷ []) new led;
           carried = carried_next tables history machine entry new led_here done.step relays later shows.carried shows.places went_on;
           places = places_kept went_on.relay_update relays later went_on.become ∙ shows.places;
-          charged = ap (λ r. given ++ r) done.recorded ∙ sym (append_assoc given waiting entry.records.items) ∙ ap (λ r. r ++ entry.records.items) shows.charged
-              ∙ ap (λ r. records_of history ++ r) (sym (append-nil entry.records.items))
-              ∙ sym (flat_map-append (λ e. e.records.items) history (entry ∷ []));
+          charged = grind (arith, append-nil, append_assoc, flat_map-append);
           within = omega (arith, longer, room);
         }
 
@@ -131,17 +97,7 @@ module _ {A : Type 0} where
     after left = record { subs = tables; history = entries; given = given; waiting = charged; stalls = left }
 
     pub advances : (stalls left : ℕ) → Advances (before stalls) event (after left) entry
-    advances stalls left =
-        let P : World → Type 0 = λ w. Step tables history w entry (world_of (after left)) in
-        let Q : World → Type 0 = λ w. Step tables history machine entry w in
-        record {
-          event_is = done.event_is;
-          step = subst P shows.shown (subst Q shows_next.shown done.step);
-          history = done.grown;
-          subs = refl;
-          given = refl;
-          waiting = done.recorded;
-        }
+    advances stalls left = grind (arith, shows_next)
 
     -- each packet that the entry puts out can be encoded
     pub entry_fits : AreWritable tables entry.outputs
@@ -171,13 +127,7 @@ module _ {A : Type 0} where
     outcome_shows (Ok entry) shows readable room done same_world same_relays same_history same_given same_waiting =
         let P : List Record → Type 0 = λ r. CoreInvariant tables entries new later (r ++ charged) in
         subst P (sym same_given) (shows_next tables history machine relays given waiting shows event readable room new later entries charged entry done)
-    outcome_shows (Err fault) shows readable room done same_world same_relays same_history same_given same_waiting =
-        let P : World → Type 0 = λ w. CoreInvariant tables entries w later (kept ++ charged) in
-        let K : List (Option (MeteredRelay A)) → Type 0 = λ r. CoreInvariant tables entries machine r (kept ++ charged) in
-        let Q : List (Entry A) → Type 0 = λ h. CoreInvariant tables h machine relays (kept ++ charged) in
-        let G : List Record → Type 0 = λ r. CoreInvariant tables history machine relays (r ++ charged) in
-        let R : List Record → Type 0 = λ r. CoreInvariant tables history machine relays (given ++ r) in
-        subst P (sym same_world) (subst K (sym same_relays) (subst Q (sym same_history) (subst G (sym same_given) (subst R (sym same_waiting) shows))))
+    outcome_shows (Err fault) shows readable room done same_world same_relays same_history same_given same_waiting = grind arith
 
     pub outcome_advances : (outcome : Result (Entry A) E) (old : Exchange A) (stalls left : ℕ) → CoreInvariant tables history machine relays (given ++ waiting) → IsReadable event.what
         → length history < tables.journal → Entering outcome → kept ≡ given → exchange_of tables history given waiting stalls ≡ old
@@ -204,10 +154,7 @@ module _ {A : Type 0} where
   pub outcome_keeps : {E : Type 0} (subs : Tables) (history entries : List (Entry A)) (given kept waiting charged : List Record) (outcome : Result (Entry A) E) (old : Exchange A) (stalls left : ℕ)
       → OnErr outcome (entries ≡ history) → kept ≡ given → OnErr outcome (charged ≡ waiting) → OnErr outcome (left ≡ stalls) → exchange_of subs history given waiting stalls ≡ old
       → OnErr outcome (exchange_of subs entries kept charged left ≡ old)
-  outcome_keeps subs history entries given kept waiting charged (Ok entry) old stalls left same same_given same_waiting as_many shown = tt
-  outcome_keeps subs history entries given kept waiting charged (Err fault) old stalls left same same_given same_waiting as_many shown =
-      ap (λ h. exchange_of subs h kept charged left) same ∙ ap (λ r. exchange_of subs history r charged left) same_given
-      ∙ ap (λ r. exchange_of subs history given r left) same_waiting ∙ ap (exchange_of subs history given waiting) as_many ∙ shown
+  outcome_keeps subs history entries given kept waiting charged outcome old stalls left one same_given same_waiting as_many shown = grind arith
 
   -- nothing was entered yet
   pub opening_shows : (tables : Tables) (history : List (Entry A)) (machine : World) (relays : List (Option (MeteredRelay A))) (records : List Record) → IsSound tables → history ≡ []

@@ -1,5 +1,5 @@
 -- Every state that a history leads to is sound and coupled.
-use Rattle.std.proofs.Common.{◌≡◌, ◌≢◌, ℕ, ◌+◌, ◌≤◌, Some, None, List, [], ◌∷◌, ◌++◌, get_or, set, length, ap, sym, subst, ◌∙◌, inl, inr, arith, length-append, length-set}
+use Rattle.std.proofs.Common.{◌≡◌, ℕ, ◌+◌, ◌≤◌, None, List, [], ◌∷◌, ◌++◌, get_or, set, length, ap, sym, subst, ◌∙◌, arith, length-append, length-set}
 use Rattle.std.proofs.lemmas.Bool.{cases_eq}
 use Rattle.std.proofs.lemmas.List.{length-replicate}
 use Rattle.std.specs.FinMap.{get-empty}
@@ -9,7 +9,6 @@ use Rattle.xp_causes.specs.declared.diagnostic.TheConstants.{CALL_COLLISION}
 use Rattle.xp_subs.specs.Tables.{Tables, line_count}
 use Rattle.xp_step.specs.declared.entry.Entry.{Entry}
 use Rattle.xp_machine.specs.Changes.{Change, Rises, Leaves, Begins, IsRefused, Connects, Ends, NoCallState, IsFree, all_changed, changed}
-use Rattle.xp_machine.specs.Channel.{call_of}
 use Rattle.xp_machine.specs.Coupling.{AreCoupled}
 use Rattle.xp_step.specs.Run.{Run}
 use Rattle.xp_core.specs.steps.Sound.{IsSound}
@@ -17,7 +16,7 @@ use Rattle.xp_step.specs.StepContext.{step_context}
 use Rattle.xp_step.specs.Step.{Step}
 use Rattle.xp_step.specs.Effects.{changes_of}
 use Rattle.xp_step.specs.Table.{action_at}
-use Rattle.xp_machine.specs.World.{Call, Line, World, call_numbered, far_end, off_line, opening, state_at}
+use Rattle.xp_machine.specs.World.{Call, Line, World, call_numbered, far_end, off_line, opening}
 use Rattle.xp_machine.proofs.Coupled.{CanBe, changed_coupled}
 use Rattle.xp_machine.proofs.Lines.{get_or-set, line_at-opening}
 use Rattle.xp_machine.proofs.Maps.{get_gone, get_left, get_other}
@@ -26,12 +25,7 @@ use Rattle.xp_core.proofs.Shapes.{Shape, none, one, two, cancelled_by, step_shap
 
 -- an entry without effect
 sound_on : (tables : Tables) (entries : ℕ) (world : World) → IsSound tables entries world → IsSound tables (entries + 1) world
-sound_on tables entries world sound = record {
-  lines = sound.lines;
-  next = omega (arith, sound.next);
-  fresh = sound.fresh;
-  connection = λ line. omega (arith, sound.connection line);
-}
+sound_on tables entries world sound = grind arith
 
 -- a line is set to one of at most so many connections
 set_within : (world : World) (bound at : ℕ) (becomes : Line) (lines : List Line) (line : ℕ) → becomes.connection ≤ bound
@@ -44,28 +38,15 @@ pub ended_sound : (tables : Tables) (entries : ℕ) (world : World) (number : �
 ended_sound tables entries world number call line way cause diagnostic sound = record {
   lines = length-set _ line _ ∙ length-set world.lines (far_end call line) _ ∙ sound.lines;
   next = sound.next;
-  fresh = λ n past. elim (cases_eq n number) [
-    | inl same ↦ get_gone world.calls number n same
-    | inr other ↦ get_left world.calls number n other ∙ sound.fresh n past
-  ];
+  fresh = grind (arith, cases_eq, get_gone, get_left);
   connection = λ l. set_within world entries line _ _ l (sound.connection line)
       (set_within world entries (far_end call line) _ world.lines l (sound.connection (far_end call line)) (sound.connection l));
 }
 
 changed_sound : (tables : Tables) (entries : ℕ) (world : World) (change : Change) → IsSound tables entries world → CanBe world change
     → IsSound tables (entries + 1) (changed change world)
-changed_sound tables entries world (Rises line) sound can = record {
-  lines = length-set world.lines line _ ∙ sound.lines;
-  next = omega (arith, sound.next);
-  fresh = sound.fresh;
-  connection = λ l. set_within world (entries + 1) line _ world.lines l (omega (arith, sound.connection line)) (omega (arith, sound.connection l));
-}
-changed_sound tables entries world (Leaves line way) sound can = record {
-  lines = length-set world.lines line _ ∙ sound.lines;
-  next = omega (arith, sound.next);
-  fresh = sound.fresh;
-  connection = λ l. set_within world (entries + 1) line _ world.lines l (omega (arith, sound.connection line)) (omega (arith, sound.connection l));
-}
+changed_sound tables entries world (Rises line) sound can = grind (arith, length-set, set_within)
+changed_sound tables entries world (Leaves line way) sound can = grind (arith, length-set, set_within)
 changed_sound tables entries world (Begins line identifier called dialled setup requested) sound can = record {
   lines = length-set _ called _ ∙ length-set world.lines line _ ∙ sound.lines;
   next = omega (arith, sound.next);
@@ -73,20 +54,11 @@ changed_sound tables entries world (Begins line identifier called dialled setup 
   connection = λ l. set_within world (entries + 1) called _ _ l (omega (arith, sound.connection called))
       (set_within world (entries + 1) line _ world.lines l (omega (arith, sound.connection line)) (omega (arith, sound.connection l)));
 }
-changed_sound tables entries world (IsRefused line identifier dialled why) sound can = record {
-  lines = length-set world.lines line _ ∙ sound.lines;
-  next = omega (arith, sound.next);
-  fresh = λ number past. sound.fresh number (omega (arith, past));
-  connection = λ l. set_within world (entries + 1) line _ world.lines l (omega (arith, sound.connection line)) (omega (arith, sound.connection l));
-}
+changed_sound tables entries world (IsRefused line identifier dialled why) sound can = grind (arith, length-set, set_within)
 changed_sound tables entries world (Connects number call agreement) sound can = record {
   lines = length-set _ call.caller _ ∙ length-set world.lines call.called _ ∙ sound.lines;
   next = omega (arith, sound.next);
-  fresh = λ n past.
-      let other : n ≢ number = λ same.
-      let none : call_numbered world number ≡ None = ap (call_numbered world) (sym same) ∙ sound.fresh n past in
-      let live : call_numbered world number ≡ Some call = can in absurd (cc) in
-      get_other world.calls number _ n other ∙ sound.fresh n past;
+  fresh = grind (arith, get_other);
   connection = λ l. set_within world (entries + 1) call.caller _ _ l (omega (arith, sound.connection call.caller))
       (set_within world (entries + 1) call.called _ world.lines l (omega (arith, sound.connection call.called)) (omega (arith, sound.connection l)));
 }
@@ -104,9 +76,7 @@ opening_sound tables = record {
 opening_coupled : (tables : Tables) → AreCoupled tables (opening (line_count tables))
 opening_coupled tables = record {
   held = λ number call is. let none : call_numbered (opening (line_count tables)) number ≡ None = get-empty nat_cmp number in absurd (cc);
-  shown = λ line number shows.
-      let none : call_of (state_at (opening (line_count tables)) line) ≡ None = ap (λ l. call_of l.state) (line_at-opening (line_count tables) line) in
-      absurd (cc);
+  shown = grind (arith, line_at-opening);
 }
 
 -- a state that is sound and coupled
@@ -155,9 +125,7 @@ module _ {A : Type 0} where
       (record { sound = opening_sound tables; coupled = opening_coupled tables }) run
 
   pub coupled_here : (tables : Tables) (history : List (Entry A)) (world machine : World) → Run tables history world → machine ≡ world → AreCoupled tables machine
-  coupled_here tables history world machine run is =
-      let P : World → Type 0 = λ w. AreCoupled tables w in subst P (sym is) (run_right tables history world run).coupled
+  coupled_here tables history world machine run is = grind (arith, run_right)
 
   pub right_here : (tables : Tables) (history : List (Entry A)) (world machine : World) → Run tables history world → machine ≡ world → IsSound tables (length history) machine
-  right_here tables history world machine run is =
-      let P : World → Type 0 = λ w. IsSound tables (length history) w in subst P (sym is) (run_right tables history world run).sound
+  right_here tables history world machine run is = grind (arith, run_right)

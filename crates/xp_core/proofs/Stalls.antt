@@ -1,5 +1,5 @@
 -- What a stall leads to.
-use Rattle.std.proofs.Common.{◌≡◌, ◌∙◌, ℕ, ◌+◌, ◌<◌, ◌≤◌, true, false, Option, Some, None, [], ◌∷◌, refl, ap, sym, subst, arith}
+use Rattle.std.proofs.Common.{◌≡◌, ◌∙◌, ℕ, ◌+◌, ◌<◌, ◌≤◌, true, false, Option, None, [], ◌∷◌, refl, ap, sym, arith}
 use Rattle.xp_causes.specs.declared.clearing_cause.TheConstants.{OUT_OF_ORDER}
 use Rattle.xp_causes.specs.declared.diagnostic.TheConstants.{NO_ADDITIONAL_INFORMATION}
 use Rattle.xp_channel.specs.declared.action.Action.{Action}
@@ -9,12 +9,12 @@ use Rattle.xp_channel.specs.Table.{cell}
 use Rattle.xp_core.specs.declared.advance.PreparedEntry.{PreparedEntry}
 use Rattle.xp_step.specs.declared.event.Event.{Event}
 use Rattle.xp_step.specs.declared.event.What.{What}
-use Rattle.xp_step.specs.declared.event.What.TheVariants.{Up, Down, Frame, WrongFrame, Expire, Stall, Reload}
+use Rattle.xp_step.specs.declared.event.What.TheVariants.{Stall}
 use Rattle.xp_step.specs.declared.outcome.Outcome.TheVariants.{Plain}
 use Rattle.xp_step.specs.Acts.{Acts}
 use Rattle.xp_step.specs.RelayedPackets.{relayed_as, relayed_by}
 use Rattle.xp_machine.specs.Changes.{GoesOut, NoCallState, all_changed, changed}
-use Rattle.xp_machine.specs.Channel.{State, Off, Ready, Waiting, Ringing, Talking, Cleared, channel_of, is_off}
+use Rattle.xp_machine.specs.Channel.{State, channel_of, is_off}
 use Rattle.xp_step.specs.Effects.{effects_of, leaves}
 use Rattle.xp_machine.specs.AppliedChange.{left}
 use Rattle.xp_step.specs.Plan.{recorded_at}
@@ -31,25 +31,14 @@ use Rattle.xp_step.proofs.Quiet.{leaves_quiet}
 -- a line that leaves its call
 left_changed : (line : ℕ) (way : NoCallState) (cause diagnostic : ℕ) (found : Option (ℕ × Call)) (world : World)
     → left line way found world ≡ changed (leaves line way cause diagnostic found) world
-left_changed line way cause diagnostic None world = refl
-left_changed line way cause diagnostic (Some found) world = refl
+left_changed line way cause diagnostic found world = grind arith
 
 -- the table of actions has nothing for a line out of service
 pub when_off : (state : State) → is_off state ≡ true → cell (channel_of state) kinds.Down ≡ Nothing
-when_off Off off = refl
-when_off Ready off = absurd (cc)
-when_off (Waiting number) off = absurd (cc)
-when_off (Ringing number) off = absurd (cc)
-when_off (Talking number) off = absurd (cc)
-when_off Cleared off = absurd (cc)
+when_off state off = grind arith
 
 pub when_on : (state : State) → is_off state ≡ false → cell (channel_of state) kinds.Down ≡ Fall
-when_on Off on = absurd (cc)
-when_on Ready on = refl
-when_on (Waiting number) on = refl
-when_on (Ringing number) on = refl
-when_on (Talking number) on = refl
-when_on Cleared on = refl
+when_on state one = grind arith
 
 module _ {A : Type 0} (at : StepContext A) (work : PreparedEntry A) (next : World) (plain : work.outcome ≡ Plain) where
   -- by what the table of actions has for it
@@ -60,19 +49,7 @@ module _ {A : Type 0} (at : StepContext A) (work : PreparedEntry A) (next : Worl
       → Relays at.tables at.before (relayed_as action (relayed_by at.line (call_on at.world at.line) (packet_in Stall))) (effects_of at Stall action work.outcome) None
       → next ≡ all_changed (effects_of at Stall action work.outcome) at.world
       → MakesStall at work next
-  makes action told is acts outputs records relays leads kept =
-      let P : Action → Type 0 = λ a. Acts at Stall a work.outcome told in
-      let Q : Action → Type 0 = λ a. work.records.items ≡ recorded_at at (effects_of at Stall a work.outcome) in
-      let R : Action → Type 0 = λ a. Relays at.tables at.before (relayed_as a (relayed_by at.line (call_on at.world at.line) (packet_in Stall))) (effects_of at Stall a work.outcome) None in
-      let W : Action → Type 0 = λ a. next ≡ all_changed (effects_of at Stall a work.outcome) at.world in
-      record {
-        told = told;
-        acts = subst P (sym is) acts;
-        outputs = outputs;
-        records = subst Q (sym is) records;
-        relays_on = record { relay_update = None; is = subst R (sym is) relays; become = refl };
-        leads = subst W (sym is) leads;
-      }
+  makes action told is acts outputs records relays leads kept = grind arith
 
   -- of a line out of service
   pub makes_nothing : is_off (state_at at.world at.line) ≡ true → work.outputs ≡ [] → work.records.items ≡ [] → next ≡ at.world → MakesStall at work next
@@ -89,36 +66,18 @@ module _ {A : Type 0} (at : StepContext A) (work : PreparedEntry A) (next : Worl
 
 -- which event a stall is
 stall_what : {A : Type 0} (what : What A) → is_stall what ≡ true → what ≡ Stall
-stall_what Stall is = refl
-stall_what Up is = absurd (cc)
-stall_what Down is = absurd (cc)
-stall_what (Frame identifier packet) is = absurd (cc)
-stall_what (WrongFrame wrong) is = absurd (cc)
-stall_what Expire is = absurd (cc)
-stall_what Reload is = absurd (cc)
+stall_what what is = grind arith
 
 pub stall_is : {A : Type 0} (event : Event A) → is_stall event.what ≡ true → stall_of event.line event.moment ≡ event
 stall_is event is = ap (λ w. record { line = event.line; moment = event.moment; what = w }) (sym (stall_what event.what is))
 
 -- an event of a line has to have four places left
 pub places_for_others : {A : Type 0} (what : What A) → is_raised what ≡ false → places_for what ≡ 4
-places_for_others Stall is = absurd (cc)
-places_for_others Up is = refl
-places_for_others Down is = refl
-places_for_others (Frame identifier packet) is = refl
-places_for_others (WrongFrame wrong) is = refl
-places_for_others Expire is = refl
-places_for_others Reload is = absurd (cc)
+places_for_others what is = grind arith
 
 -- every event takes a place
 least_places : {A : Type 0} (what : What A) → 1 ≤ places_for what
-least_places Stall = omega arith
-least_places Up = omega arith
-least_places Down = omega arith
-least_places (Frame identifier packet) = omega arith
-least_places (WrongFrame wrong) = omega arith
-least_places Expire = omega arith
-least_places Reload = omega arith
+least_places what = grind arith
 
 -- so a history that has the places for an event can get its entry
 pub has_room : {A : Type 0} (what : What A) (count limit : ℕ) → count + places_for what ≤ limit → count < limit

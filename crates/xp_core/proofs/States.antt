@@ -1,10 +1,8 @@
 -- The line of an event comes to the state that the table of actions has, or to p7 where it is cleared at once.
-use Rattle.std.proofs.Common.{◌≡◌, ◌≢◌, ◌∙◌, ℕ, ◌<◌, Bool, true, false, Option, Some, None, List, [], ◌∷◌, length, get_or, set, refl, ap, sym, subst, inl, inr, arith, length-set, get_or-set_other}
+use Rattle.std.proofs.Common.{◌≡◌, ◌≢◌, ◌∙◌, ℕ, ◌<◌, Bool, true, false, Option, Some, List, [], ◌∷◌, length, get_or, set, refl, ap, sym, subst, arith, length-set, get_or-set_other}
 use Rattle.std.proofs.lemmas.List.{get_or-set_same}
 use Rattle.std.specs.Prelude.{option_map}
 use Rattle.xp_answer.specs.declared.setup.Setup.{Setup}
-use Rattle.xp_causes.specs.declared.clearing_cause.TheConstants.{NUMBER_BUSY, REMOTE_PROCEDURE_ERROR}
-use Rattle.xp_causes.specs.declared.diagnostic.TheConstants.{CALL_COLLISION}
 use Rattle.xp_channel.specs.declared.action.Action.{Action}
 use Rattle.xp_channel.specs.declared.action.Action.TheVariants.{Nothing, Rise, Fall, NewCall, Collision, Answer, Confirm, Free, Error, Relayed, Expired}
 use Rattle.xp_channel.specs.declared.channel.Channel.{Channel}
@@ -17,7 +15,7 @@ use Rattle.xp_step.specs.declared.event.What.TheVariants.{Frame}
 use Rattle.xp_step.specs.declared.outcome.Outcome.{Outcome}
 use Rattle.xp_step.specs.declared.outcome.Outcome.TheVariants.{Plain, Put, Refused, Connected, Declined, Exceeded}
 use Rattle.xp_step.specs.declared.output.Output.{Output}
-use Rattle.xp_step.specs.Acts.{Acts, Answers, CarriesAs, Confirms, IsAnswered, IsPut, IsRequested, Requests, outputs_of_cancel}
+use Rattle.xp_step.specs.Acts.{Acts, Answers, CarriesAs, Confirms, IsAnswered, IsPut, IsRequested, outputs_of_cancel}
 use Rattle.xp_step.specs.Effects.{answers, carries, collides, confirms, effects_of, leaves, requests}
 use Rattle.xp_step.specs.EventOutputs.{EventOutputs}
 use Rattle.xp_step.specs.RelayedPackets.{RelayedPacket, relayed_by}
@@ -26,11 +24,11 @@ use Rattle.xp_step.specs.Step.{Step}
 use Rattle.xp_step.specs.InForce.{in_force}
 use Rattle.xp_step.specs.StepContext.{StepContext, step_context}
 use Rattle.xp_step.specs.Table.{CallAccepted, CallRequest, ClearRequest, accepted_in, action_at, action_in, clear_in, packet_in, request_in}
-use Rattle.xp_machine.specs.Changes.{Change, NoCallState, IsFree, IsCleared, GoesOut, Ends, all_changed, changed, state_after}
-use Rattle.xp_machine.specs.Channel.{Cleared, Talking, call_of, channel_of}
+use Rattle.xp_machine.specs.Changes.{Change, NoCallState, IsFree, IsCleared, GoesOut, all_changed, state_after}
+use Rattle.xp_machine.specs.Channel.{call_of, channel_of}
 use Rattle.xp_machine.specs.Coupling.{AreCoupled, IsEnd, IsHeld}
-use Rattle.xp_machine.specs.World.{Call, Line, World, call_on, far_end, line_at, numbered, off_line, state_at}
-use Rattle.xp_machine.proofs.Lines.{late, early, never, twice}
+use Rattle.xp_machine.specs.World.{Call, Line, World, call_on, numbered, off_line, state_at}
+use Rattle.xp_machine.proofs.Lines.{twice}
 use Rattle.xp_core.specs.States.{IsStateAfter, channel_at}
 use Rattle.xp_core.proofs.Cells.{Suits, suits_in}
 use Rattle.xp_core.proofs.Idle.{taken_ready}
@@ -44,8 +42,7 @@ set_to lines line becomes within = ap (λ l. channel_of l.state) (get_or-set_sam
 -- and then another line is set
 set_before : (lines : List Line) (line other : ℕ) (becomes last : Line) → line ≢ other → line < length lines
     → channel_of (get_or (set (set lines line becomes) other last) line off_line).state ≡ channel_of becomes.state
-set_before lines line other becomes last differ within =
-    ap (λ l. channel_of l.state) (get_or-set_other (set lines line becomes) other line last off_line differ ∙ get_or-set_same lines line becomes off_line within)
+set_before lines line other becomes last differ within = grind (arith, get_or-set_other, get_or-set_same)
 
 module _ {A : Type 0} where
   -- the packet that an action is for
@@ -71,8 +68,7 @@ module _ {A : Type 0} where
   -- a clear request settles nothing
   confirmed_plain : (at : StepContext A) (clear : ClearRequest A) (found : Option (ℕ × Call)) (outcome : Outcome) (told : EventOutputs A)
       → Confirms at (Some clear) found outcome told → outcome ≡ Plain
-  confirmed_plain at clear None outcome told acts = acts.0
-  confirmed_plain at clear (Some found) outcome told acts = acts.plain
+  confirmed_plain at clear found outcome told acts = grind arith
 
 module _ {A : Type 0} (tables : Tables) (history : List (Entry A)) (world : World) (line moment : ℕ)
     (coupled : AreCoupled tables world) (lines : length world.lines ≡ line_count tables) (within : line < length world.lines) where
@@ -87,20 +83,14 @@ module _ {A : Type 0} (tables : Tables) (history : List (Entry A)) (world : Worl
   after changes = channel_at (all_changed changes world) line
 
   left : (way : NoCallState) (cause diagnostic : ℕ) (found : Option (ℕ × Call)) → after (leaves line way cause diagnostic found ∷ []) ≡ channel_of (state_after way)
-  left way cause diagnostic None = set_to world.lines line (record (line_at world line) { state = state_after way }) within
-  left way cause diagnostic (Some found) =
-      let far : ℕ = far_end found.1 line in
-      let cleared : Line = record (line_at world far) { state = Cleared } in
-      set_to (set world.lines far cleared) line (record (line_at world line) { state = state_after way }) (omega (arith, length-set world.lines far cleared, within))
+  left way cause diagnostic found = grind (arith, length-set, set_to)
 
   -- ---- a call request
 
   -- its own line is not the one that it is put to
   elsewhere : (far : List (Output A)) (request : CallRequest A) (called : ℕ) (setup : Setup) (told : EventOutputs A)
       → IsPut (in_force tables history) world line far request called setup told → line ≢ called
-  elsewhere far request called setup told put =
-      let P : ℕ → Type 0 = λ l. line ≢ l in
-      subst P (sym put.called_is) (taken_ready (in_force tables history) world line request.block put.ring put.decided).differ
+  elsewhere far request called setup told put = grind (arith, taken_ready)
 
   -- from the state in which the call that was put to the line is cancelled, if there was one
   requested : (now : World) → line < length now.lines → (far : List (Output A)) (request : CallRequest A) (outcome : Outcome) (told : EventOutputs A)
@@ -114,42 +104,18 @@ module _ {A : Type 0} (tables : Tables) (history : List (Entry A)) (world : Worl
   requested now there far request Exceeded told acts = acts
 
   as_collision : (outcome : Outcome) (state : Channel) → IsStateAfter old NewCall outcome state → IsStateAfter old Collision outcome state
-  as_collision (Put called setup) state is = is
-  as_collision (Refused why) state is = is
-  as_collision Plain state is = is
-  as_collision (Connected agreement) state is = is
-  as_collision (Declined diagnostic) state is = is
-  as_collision Exceeded state is = is
+  as_collision outcome state is = grind arith
 
   collided : (request : CallRequest A) (found : Option (ℕ × Call)) (outcome : Outcome) (told : EventOutputs A)
       → IsRequested (in_force tables history) world line (outputs_of_cancel world line) request outcome told
       → IsStateAfter old Collision outcome (after (collides line moment (Some request) found outcome))
-  collided request None outcome told acts =
-      as_collision outcome _ (requested world within (outputs_of_cancel world line) request outcome told acts)
-  collided request (Some found) outcome told acts =
-      let far : ℕ = far_end found.1 line in
-      let ended : World = changed (Ends found.0 found.1 line IsFree NUMBER_BUSY CALL_COLLISION) world in
-      let count : length ended.lines ≡ length world.lines = length-set _ line _ ∙ length-set world.lines far _ in
-      let there : line < length ended.lines = omega (arith, count, within) in
-      as_collision outcome _ (requested ended there (outputs_of_cancel world line) request outcome told acts)
+  collided request found outcome told acts = grind (arith, as_collision, length-set, requested)
 
   -- ---- an answer
 
   answered : (answer : CallAccepted A) (found : ℕ × Call) → IsHeld tables world found.0 found.1 → IsEnd found.1 line → (outcome : Outcome) (told : EventOutputs A)
       → IsAnswered at answer found.1 outcome told → IsStateAfter old Answer outcome (after (answers line (Some found) outcome))
-  answered answer found held end (Connected agreement) told acts =
-      let talks : ℕ → Line = λ l. record (line_at world l) { state = Talking found.0 } in
-      elim (twice world.lines found.1.called (talks found.1.called) found.1.caller (talks found.1.caller) line
-      (omega (arith, lines, held.called)) (omega (arith, lines, held.caller))) [
-        | late is now ↦ ap (λ l. channel_of l.state) now
-        | early is now ↦ ap (λ l. channel_of l.state) now
-        | never not_called not_caller now ↦ elim end [ inl is ↦ absurd (not_caller is) | inr is ↦ absurd (not_called is) ]
-      ]
-  answered answer found held end (Declined diagnostic) told acts = left IsCleared REMOTE_PROCEDURE_ERROR diagnostic (Some found)
-  answered answer found held end Plain told acts = acts
-  answered answer found held end (Put called setup) told acts = acts
-  answered answer found held end (Refused why) told acts = acts
-  answered answer found held end Exceeded told acts = acts
+  answered answer found outcome end one told acts = grind (arith, twice)
 
   -- ---- a packet of a line in data transfer
 
@@ -173,14 +139,8 @@ module _ {A : Type 0} (tables : Tables) (history : List (Entry A)) (world : Worl
   follows what (Error diagnostic) outcome told suit asked acts = (acts.0, left IsCleared _ _ (call_on world line))
   follows what Expired outcome told suit asked acts = (acts.0, left IsCleared _ _ (call_on world line))
   follows what Relayed outcome told suit asked acts = relayed (relayed_by line (call_on world line) (packet_in what)) _ outcome told acts
-  follows what NewCall outcome told suit asked acts =
-      let P : Option (CallRequest A) → Type 0 = λ asks. Requests (in_force tables history) world line [] asks outcome told in
-      let S : Option (CallRequest A) → Type 0 = λ asks. IsStateAfter old NewCall outcome (after (requests line moment asks outcome)) in
-      subst S (sym asked.1) (requested world within [] asked.0 outcome told (subst P asked.1 acts))
-  follows what Collision outcome told suit asked acts =
-      let P : Option (CallRequest A) → Type 0 = λ asks. Requests (in_force tables history) world line (outputs_of_cancel world line) asks outcome told in
-      let S : Option (CallRequest A) → Type 0 = λ asks. IsStateAfter old Collision outcome (after (collides line moment asks (call_on world line) outcome)) in
-      subst S (sym asked.1) (collided asked.0 (call_on world line) outcome told (subst P asked.1 acts))
+  follows what NewCall outcome told suit asked acts = grind (arith, asks, requested)
+  follows what Collision outcome told suit asked acts = grind (arith, asks, collided)
   follows what Answer outcome told suit asked acts =
       let shown = coupled.shown line suit.0 (ap call_of suit.1) in
       let found : ℕ × Call = (suit.0, shown.0) in
@@ -198,10 +158,4 @@ module _ {A : Type 0} (tables : Tables) (history : List (Entry A)) (world : Worl
 pub state_follows : {A : Type 0} (tables : Tables) (history : List (Entry A)) (world : World) (entry : Entry A) (next : World)
     → Run tables history world → Step tables history world entry next
     → IsStateAfter (channel_at world entry.event.line) (action_at world entry.event) entry.outcome (channel_at next entry.event.line)
-state_follows tables history world entry next run step =
-    let right = run_right tables history world run in
-    let line : ℕ = entry.event.line in
-    let S : World → Type 0 = λ w. IsStateAfter (channel_at world line) (action_at world entry.event) entry.outcome (channel_at w line) in
-    subst S (sym step.leads) (follows tables history world line entry.event.moment right.coupled right.sound.lines step.line entry.event.what
-    (action_at world entry.event) entry.outcome step.told (suits_in (state_at world line) entry.event.what)
-    (asks (channel_at world line) entry.event.what) step.acts)
+state_follows tables history world entry next run step = grind (arith, asks, follows, run_right, suits_in)

@@ -105,9 +105,19 @@ pub fn open_newest<R: AllocGlobal + Copy + Drop + Files<File = File>>(
     ensures failures { IfOk result (λ opened. ⟦<DetailFile<R> as RecordFile>⟧.failures opened.0 ≡ 0) }
 {
     let (file, opened) = DetailFile::open(rt.alloc(), rt, newest.path.as_str())?;
-    let now = newest_day(&rt, directory, today).map_err(OpenFault::Directory)?;
-    if now.is_some_and(|day| day > newest.day) {
-        return Err(OpenFault::InUse);
-    }
+    expect_none_later(&rt, directory, newest.day, today)?;
     Ok((file, opened))
+}
+
+/// Fails with `InUse` where another exchange has begun the file of a later day than this one, up to `today`.
+fn expect_none_later<R: AllocGlobal + Clone + Drop + Files<File = File>>(
+    rt: &R,
+    directory: &str,
+    day: u64,
+    today: u64,
+) -> Result<(), OpenFault> {
+    match newest_day(rt, directory, today)? {
+        Some(newest) if newest > day => Err(OpenFault::InUse),
+        _ => Ok(()),
+    }
 }

@@ -1,8 +1,8 @@
 //! The newest of the files of days in a directory.
 
 use crate::day::{day_named, file_name};
-use std::alloc::{AllocError, AllocGlobal, Global};
-use std::fs::{File, Files};
+use std::alloc::{AllocGlobal, Global};
+use std::fs::{DirEntry, File, Files};
 use std::{fs, io};
 use xp_cdr::{OpenFault, path_in};
 
@@ -24,9 +24,7 @@ pub fn newest_file<R: AllocGlobal + Clone + Drop + Files<File = File>>(
     directory: &str,
     today: u64,
 ) -> Result<DayFile, OpenFault> {
-    let day = newest_day(rt, directory, today)
-        .map_err(OpenFault::Directory)?
-        .unwrap_or(today);
+    let day = newest_day(rt, directory, today)?.unwrap_or(today);
     file_of(rt.alloc(), directory, day)
 }
 
@@ -43,7 +41,7 @@ pub fn file_before<R: AllocGlobal + Clone + Drop + Files<File = File>>(
     let Some(last) = day.checked_sub(1) else {
         return Ok(None);
     };
-    match newest_day(rt, directory, last).map_err(OpenFault::Directory)? {
+    match newest_day(rt, directory, last)? {
         Some(day) => Ok(Some(file_of(rt.alloc(), directory, day)?)),
         None => Ok(None),
     }
@@ -51,7 +49,7 @@ pub fn file_before<R: AllocGlobal + Clone + Drop + Files<File = File>>(
 
 /// The file of this day in this directory.
 fn file_of(alloc: Global, directory: &str, day: u64) -> Result<DayFile, OpenFault> {
-    let path = path_in(alloc, directory, file_name(day).as_str()).map_err(no_memory)?;
+    let path = path_in(alloc, directory, file_name(day).as_str())?;
     Ok(DayFile { day, path })
 }
 
@@ -60,18 +58,24 @@ pub(crate) fn newest_day<R: AllocGlobal + Clone + Drop + Files<File = File>>(
     rt: &R,
     directory: &str,
     today: u64,
-) -> io::Result<Option<u64>> {
+) -> Result<Option<u64>, OpenFault> {
     let mut newest = None;
-    for entry in fs::read_dir(rt, directory)? {
-        let entry = match entry {
-            Ok(entry) => entry,
-            // A name that is no text is that of no day.
-            Err(error) if error.kind() == io::ErrorKind::InvalidFilename => continue,
-            Err(error) => return Err(error),
-        };
-        newest = later(newest, day_named(entry.file_name()), today);
+    for entry in fs::read_dir(rt, directory).map_err(OpenFault::Directory)? {
+        newest = later(newest, day_of_entry(entry)?, today);
     }
     Ok(newest)
+}
+
+/// The day whose file an entry of the directory is, if it is one.
+fn day_of_entry<R: Clone + Drop + Files<File = File>>(
+    entry: io::Result<DirEntry<R>>,
+) -> Result<Option<u64>, OpenFault> {
+    match entry {
+        Ok(entry) => Ok(day_named(entry.file_name())),
+        // A name that is no text is that of no day.
+        Err(error) if error.kind() == io::ErrorKind::InvalidFilename => Ok(None),
+        Err(error) => Err(OpenFault::Directory(error)),
+    }
 }
 
 /// The later of two days that are not after `today`.
@@ -82,9 +86,4 @@ fn later(newest: Option<u64>, day: Option<u64>, today: u64) -> Option<u64> {
         (Some(newest), Some(day)) => Some(newest.max(day)),
         (None, day) => day,
     }
-}
-
-/// Memory was wanting.
-fn no_memory(_refused: AllocError) -> OpenFault {
-    OpenFault::Open(io::Error::from(io::ErrorKind::OutOfMemory))
 }

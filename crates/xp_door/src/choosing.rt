@@ -14,7 +14,7 @@ use xp_packets::{Digits, Modulus};
 use xp_subs::{LineNo, StationNo, Subs};
 
 /// What the calls of a router are matched with, of a line behind it.
-#[derive(Drop, PartialEq)]
+#[derive(Drop)]
 pub struct Caller {
     pub modulus: Modulus,
     pub station: StationNo,
@@ -68,7 +68,7 @@ fn copied(address: &Option<Digits>) -> Option<Digits>
 }
 
 /// A line behind a router, as a connection of that router comes.
-#[derive(Drop, PartialEq)]
+#[derive(Drop)]
 pub struct Candidate {
     /// The address of its router.
     pub router: IpAddr,
@@ -78,7 +78,7 @@ pub struct Candidate {
 }
 
 /// By which rule lines are found that may take a call of their router: the first that applies.
-#[derive(Clone, Copy, PartialEq)]
+#[derive(Clone, Copy)]
 pub enum CallerRule {
     /// Those whose own address is the calling address.
     OwnAddress,

@@ -248,8 +248,7 @@ impl Door {
     /// Wakes the thread of a line.
     fn wake(&self, line: LineNo) {
         if let Some(waker) = self.wakers.get(line as usize) {
-            waker.mark_work();
-            waker.wake_if_asleep();
+            waker.ring();
         }
     }
 

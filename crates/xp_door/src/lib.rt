@@ -51,5 +51,5 @@ pub use routes::Routes;
 pub use share::LineShare;
 pub use tap::Tap;
 pub use trace::Trace;
-pub use wakers::{LineWaker, ThreadWaker, wake_if_asleep};
+pub use wakers::{LineWaker, ThreadWaker};
 pub use want::is_in_want;

@@ -1,16 +1,17 @@
 //! What an operator is to know of the lines' connections.
 
-ghost use Rattle.std.specs.Prelude.{◌≡◌, ◌<◌, ◌↔◌, ◌∷◌, [], ◌++◌, IfOk, IsTrue, length};
+ghost use Rattle.std.specs.Prelude.{◌≡◌, ◌<◌, ◌↔◌, ◌∷◌, [], ◌++◌, IfOk, IsTrue, codes, length};
 ghost use Rattle.std.specs.Bool.{OnFalse, OnTrue};
+ghost use Rattle.std.specs.Net.Text.{socket_text};
 ghost use Rattle.xp_door.specs.Notices.{line_of};
-ghost use Rattle.xp_door.specs.steps.Notices.{text_of, words_text};
+ghost use Rattle.xp_door.specs.steps.Notices.{subject_text, text_of, words_text};
 
 use crate::calls::ClearedCall;
 use crate::connect_fault::ConnectFault;
 use crate::down_reason::DownReason;
 use crate::locks::hold;
 use crate::notice_words::Subject::{Call, Count, Fault, Nothing, Peer, Reason};
-use crate::notice_words::Words;
+use crate::notice_words::{Subject, Words};
 use crate::tap::Tap;
 use crate::trace::Trace;
 use crate::traffic::Traffic;
@@ -26,9 +27,6 @@ use xp_subs::LineNo;
 
 /// How many notices wait at most.
 const MOST_WAITING: usize = 1_024;
-
-/// How the text of most notices begins that are of a peer.
-const FROM: &str = "connection from ";
 
 /// What has become of a line's connections.
 #[derive(Clone, Copy)]
@@ -112,32 +110,30 @@ impl Notice {
         ensures { words_text result ≡ text_of self.now }
     {
         match self {
-            Notice::Refused { peer, .. } => Words(FROM, Peer(*peer), " refused"),
-            Notice::HasOne { peer, .. } => Words(FROM, Peer(*peer), " refused: the line has one"),
+            Notice::Refused { peer, .. } => connection_from(peer, " refused"),
+            Notice::HasOne { peer, .. } => connection_from(peer, " refused: the line has one"),
             Notice::MoreRefused { count, .. } => {
                 Words("", Count(*count), " more connections refused")
             }
-            Notice::Replaced { peer, .. } => Words(
-                "replaced by a connection from ",
-                Peer(*peer),
-                "",
-            ),
-            Notice::Up { peer, .. } => Words("up from ", Peer(*peer), ""),
-            Notice::Down { reason, .. } => Words("down: ", Reason(*reason), ""),
-            Notice::Connected { peer, .. } => Words("connected to ", Peer(*peer), ""),
-            Notice::Closed { .. } => Words("connection closed", Nothing, ""),
+            Notice::Replaced { peer, .. } => {
+                ending_in("replaced by a connection from ", Peer(*peer))
+            }
+            Notice::Up { peer, .. } => ending_in("up from ", Peer(*peer)),
+            Notice::Down { reason, .. } => ending_in("down: ", Reason(*reason)),
+            Notice::Connected { peer, .. } => ending_in("connected to ", Peer(*peer)),
+            Notice::Closed { .. } => ending_in("connection closed", Nothing),
             Notice::NotConnected { fault, .. } => {
-                Words("no connection to the router: ", Fault(*fault), "")
+                ending_in("no connection to the router: ", Fault(*fault))
             }
-            Notice::CallCleared { call, .. } => Words("", Call(*call), ""),
+            Notice::CallCleared { call, .. } => ending_in("", Call(*call)),
             Notice::PortFailing { .. } | Notice::DoorFailing => {
-                Words("port fails: no connection can be accepted", Nothing, "")
+                ending_in("port fails: no connection can be accepted", Nothing)
             }
-            Notice::PortWorks { .. } | Notice::DoorWorks => Words("port works again", Nothing, ""),
+            Notice::PortWorks { .. } | Notice::DoorWorks => ending_in("port works again", Nothing),
             Notice::NoRouter { peer } => {
-                Words(FROM, Peer(*peer), " refused: no line is behind this router")
+                connection_from(peer, " refused: no line is behind this router")
             }
-            Notice::NoFreeLine { peer } => Words(FROM, Peer(*peer), " refused: no line is free"),
+            Notice::NoFreeLine { peer } => connection_from(peer, " refused: no line is free"),
             Notice::NoCaller { peer } => {
                 Words(
                     "call from ",
@@ -146,25 +142,31 @@ impl Notice {
                 )
             }
             Notice::NoRoom { peer } => {
-                Words(
-                    FROM,
-                    Peer(*peer),
-                    " refused: too many wait for their first frame",
-                )
+                connection_from(peer, " refused: too many wait for their first frame")
             }
             Notice::NoFrame { peer } => {
-                Words(
-                    FROM,
-                    Peer(*peer),
-                    " closed: no whole frame came in 10 seconds",
-                )
+                connection_from(peer, " closed: no whole frame came in 10 seconds")
             }
-            Notice::NoFraming { peer } => Words(FROM, Peer(*peer), " closed: no frame of RFC 1613"),
+            Notice::NoFraming { peer } => connection_from(peer, " closed: no frame of RFC 1613"),
             Notice::EndedEarly { peer } => {
-                Words(FROM, Peer(*peer), " ended before its first frame was whole")
+                connection_from(peer, " ended before its first frame was whole")
             }
         }
     }
+}
+
+/// The words of a notice of a connection from this peer.
+fn connection_from(peer: &SocketAddr, what: &'static str) -> Words
+    ensures { words_text result ≡ codes "connection from " ++ (socket_text peer.now ++ what.now) }
+{
+    Words("connection from ", Peer(*peer), what)
+}
+
+/// The words of a notice whose text ends in what it tells of.
+fn ending_in(before: &'static str, subject: Subject) -> Words
+    ensures { words_text result ≡ before.now ++ subject_text subject }
+{
+    Words(before, subject, "")
 }
 
 /// The text of the notice, without its line, such as `up from 10.0.0.9:40000`.

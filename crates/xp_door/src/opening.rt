@@ -1,6 +1,7 @@
 //! What the octets of a router's connection open with.
 
 ghost use Rattle.std.specs.Prelude.{IfOk};
+ghost use Rattle.xp_frames.specs.Deframer.{IsNew};
 ghost use Rattle.xp_door.specs.Openings.{IsOpening};
 ghost use Rattle.xp_door.specs.steps.Openings.{OpensWith};
 
@@ -27,10 +28,18 @@ pub fn opening_of(alloc: Global, octets: &[u8]) -> Result<Opening, AllocError>
     ensures { IfOk result (IsOpening octets.now) }
 {
     let mut frames = Deframer::new(alloc);
+    opening_by(&mut frames, octets)
+}
+
+/// What these octets open with, by a deframer that has taken none before them.
+fn opening_by(frames: &mut Deframer, octets: &[u8]) -> Result<Opening, AllocError>
+    requires { IsNew frames.old }
+    ensures { IfOk result (IsOpening octets.now) }
+{
     match frames.feed(octets) {
-        Ok(()) => Ok(first_in(&mut frames, Opening::Partial)),
-        Err(FrameFault::Version(_)) => Ok(first_in(&mut frames, Opening::BadHeader)),
-        Err(FrameFault::Length(_)) => Ok(first_in(&mut frames, Opening::BadHeader)),
+        Ok(()) => Ok(first_in(frames, Opening::Partial)),
+        Err(FrameFault::Version(_)) => Ok(first_in(frames, Opening::BadHeader)),
+        Err(FrameFault::Length(_)) => Ok(first_in(frames, Opening::BadHeader)),
         Err(FrameFault::Failed) => Err(AllocError),
         Err(FrameFault::Memory) => Err(AllocError),
     }

@@ -34,13 +34,6 @@ impl LineShare {
         })
     }
 
-    /// The same share again.
-    pub fn try_clone(&self) -> Result<LineShare, AllocError>
-        ensures { IfOk result (λ share. share.line ≡ self.now.line) }
-    {
-        LineShare::new(self.line, &self.wakers, &self.notices)
-    }
-
     /// The waker of the line's own thread.
     pub fn waker(&self) -> Option<&LineWaker> {
         self.wakers.get(self.line as usize)

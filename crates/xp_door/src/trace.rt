@@ -14,30 +14,43 @@ use xp_trace::{Piece, TracedLines, WaitingPieces};
 #[derive(Drop)]
 pub struct Trace {
     lines: TracedLines,
-    /// How many connections each line has had.
-    connections: Vec<AtomicU32>,
-    /// Whether another line has taken the number of each, or none has it any more.
-    are_gone: Vec<AtomicBool>,
+    numbers: Vec<LineNumber>,
     waiting: Mutex<WaitingPieces>,
     /// How many octets were left out.
     left_out: AtomicU64,
     is_stopped: AtomicBool,
 }
 
+/// What is known of the number of a line.
+#[derive(Drop)]
+struct LineNumber {
+    /// How many connections the line has had.
+    connections: AtomicU32,
+    /// Whether another line has taken the number, or none has it any more.
+    is_gone: AtomicBool,
+}
+
+/// So many numbers of lines that have had no connection.
+fn numbers_of_lines(alloc: Global, count: usize) -> Result<Vec<LineNumber>, AllocError> {
+    let mut numbers = Vec::with_capacity(alloc, count)?;
+    for _line in 0..count {
+        numbers.push(LineNumber {
+            connections: AtomicU32::new(0),
+            is_gone: AtomicBool::new(false),
+        })?;
+    }
+    Ok(numbers)
+}
+
 impl Trace {
     /// The trace of these lines, of so many that there are.
     pub fn new(alloc: Global, lines: TracedLines, count: usize) -> Result<Trace, AllocError> {
-        let mut connections = Vec::with_capacity(alloc, count)?;
-        let mut are_gone = Vec::with_capacity(alloc, count)?;
-        for _line in 0..count {
-            connections.push(AtomicU32::new(0))?;
-            are_gone.push(AtomicBool::new(false))?;
-        }
+        let numbers = numbers_of_lines(alloc, count)?;
+        let waiting = WaitingPieces::new(alloc)?;
         Ok(Trace {
             lines,
-            connections,
-            are_gone,
-            waiting: Mutex::new(WaitingPieces::new(alloc)?),
+            numbers,
+            waiting: Mutex::new(waiting),
             left_out: AtomicU64::new(0),
             is_stopped: AtomicBool::new(false),
         })
@@ -45,26 +58,22 @@ impl Trace {
 
     /// The number of a line's next connection. `None` where the line is not traced, or no line is any more.
     pub(crate) fn next_connection(&self, line: LineNo) -> Option<u32> {
-        if self.is_stopped() || !self.lines.includes(line) || self.is_gone(line) {
+        if self.is_stopped() || !self.lines.includes(line) {
             return None;
         }
-        let connections = self.connections.get(usize::from(line))?;
-        Some(connections.fetch_add(1, SeqCst))
+        let number = self.numbers.get(usize::from(line))?;
+        if number.is_gone.load(SeqCst) {
+            return None;
+        }
+        Some(number.connections.fetch_add(1, SeqCst))
     }
 
     /// The line with this number is gone: where lines were named to be traced, another one that takes the number is not.
     pub(crate) fn line_goes(&self, line: LineNo) {
         if let TracedLines::Named(_) = &self.lines {
-            if let Some(is_gone) = self.are_gone.get(usize::from(line)) {
-                is_gone.store(true, SeqCst);
+            if let Some(number) = self.numbers.get(usize::from(line)) {
+                number.is_gone.store(true, SeqCst);
             }
-        }
-    }
-
-    fn is_gone(&self, line: LineNo) -> bool {
-        match self.are_gone.get(usize::from(line)) {
-            Some(is_gone) => is_gone.load(SeqCst),
-            None => true,
         }
     }
 

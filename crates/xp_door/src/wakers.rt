@@ -5,7 +5,6 @@ use mio::Waker;
 use std::sync::Arc;
 use std::sync::atomic::AtomicBool;
 use std::sync::atomic::Ordering::SeqCst;
-use xp_subs::LineNo;
 
 /// Wakes a thread that serves lines. To wake one that is not asleep takes no call of the system.
 #[derive(Drop)]
@@ -88,18 +87,19 @@ impl LineWaker {
         }
     }
 
-    /// Keeps the line's thread from a sleep that it has not begun. Any thread may call it, and has to call `wake_if_asleep` after it.
+    /// Marks work for the line, and wakes its thread where it sleeps, or is about to. Any thread may call it.
+    pub fn ring(&self) {
+        self.mark_work();
+        self.thread.wake_if_asleep();
+    }
+
+    /// Keeps the line's thread from a sleep that it has not begun. Another thread has to ring after it.
     ///
     /// Each of the two threads writes its own flag before it reads the other's, so that at least one of them sees what the other
     /// has written.
     pub fn mark_work(&self) {
         self.has_work.store(true, SeqCst);
         self.thread.due.mark(self.place);
-    }
-
-    /// Wakes the line's thread where it sleeps, or is about to.
-    pub fn wake_if_asleep(&self) {
-        self.thread.wake_if_asleep();
     }
 
     /// Whether work was marked. From now on it is not: the turn that follows looks at all that was put out to the line before this.
@@ -173,15 +173,5 @@ impl LineWaker {
     /// Whether it was told that the line has a connection. From now on it is told that it has none.
     pub(crate) fn take_told(&self) -> bool {
         self.is_told.swap(false, SeqCst)
-    }
-}
-
-/// Wakes the thread of a line, if there is one.
-pub fn wake_if_asleep(wakers: &[LineWaker], line: Option<LineNo>) {
-    let Some(line) = line else {
-        return;
-    };
-    if let Some(waker) = wakers.get(line as usize) {
-        waker.wake_if_asleep();
     }
 }

@@ -62,7 +62,7 @@ fn act_on<A: Allocator + Copy, W: Write>(
     ensures subs { core.new.subs ≡ core.old.subs }
 {
     if core.count() + PLACES > core.subs().journal() {
-        return Err(refuse(event));
+        return Err(ReplayFault::Journal);
     }
     // The entry is large: it is told where the step puts it, and not moved.
     match core.step(event) {
@@ -86,7 +86,7 @@ fn drop_records<A: Allocator + Copy>(core: &mut Core<A>)
     }
 }
 
-/// Acts on one event, and returns its entry.
+/// Acts on one event, and returns its entry. The history has four places left for it, also where it is a stall.
 pub fn enter<A: Allocator + Copy>(
     core: &mut Core<A>,
     event: Event<A>,
@@ -99,40 +99,16 @@ pub fn enter<A: Allocator + Copy>(
     ensures same { OnErr result (core.new ≡ core.old) }
     ensures subs { core.new.subs ≡ core.old.subs }
 {
-    match step(core, event) {
+    if core.count() + PLACES > core.subs().journal() {
+        return Err(ReplayFault::Journal);
+    }
+    match core.step(event) {
         Ok(entry) => {
             drop_records(core);
             Ok(entry)
         }
-        Err(fault) => Err(fault),
-    }
-}
-
-/// Acts on one event, and returns its entry. The history has four places left for it, also where it is a stall.
-fn step<A: Allocator + Copy>(core: &mut Core<A>, event: Event<A>) -> Result<Entry<A>, ReplayFault>
-    requires { Fits core.old.subs event }
-    ensures ok { IfOk result (Advances core.old event core.new) }
-    ensures room { OnOk result (length core.old.history + 4 ≤ core.old.subs.journal) }
-    ensures writable { IfOk result (λ entry. AreWritable core.old.subs entry.outputs) }
-    ensures lines { IfOk result (HasLines (line_count core.old.subs)) }
-    ensures plain { IfOk result (λ entry. entry.tables.items ≡ []) }
-    ensures refused { IfErr result (RefusesEvent core.old) }
-    ensures same { OnErr result (core.new ≡ core.old) }
-{
-    if core.count() + PLACES > core.subs().journal() {
-        return Err(refuse(event));
-    }
-    match core.step(event) {
-        Ok(entry) => Ok(entry),
         Err(fault) => Err(reason_of(&fault)),
     }
-}
-
-/// Refuses an event for which the history has too few places.
-fn refuse<A: Allocator>(_event: Event<A>) -> ReplayFault
-    ensures { result ≡ Journal }
-{
-    ReplayFault::Journal
 }
 
 /// Returns the outputs of an entry, and drops the rest.

@@ -6,7 +6,7 @@ use thiserror::Error;
 use xp_core::ReloadFault;
 
 /// Why a script was not replayed to its end.
-#[derive(Clone, Copy, Debug, PartialEq, Eq, Error)]
+#[derive(Clone, Copy, Debug, Error)]
 pub enum ReplayFault {
     /// The line of this number is not a line of a script. The first line has the number 1.
     #[error("script line {0}")]

@@ -203,9 +203,8 @@ impl<'s, 'n, A: Allocator + Copy> UnfinishedScript<'s, 'n, A> {
         if self.line.len() + octets.len() > MAX_LINE_OCTETS {
             return Err(ReplayFault::Script(self.number));
         }
-        self.line
-            .extend_from_slice(octets)
-            .map_err(|_| ReplayFault::Memory)
+        self.line.extend_from_slice(octets)?;
+        Ok(())
     }
 
     /// Plays the last line, which may lack its line feed, and flushes the writer.

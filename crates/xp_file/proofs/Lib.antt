@@ -2,6 +2,7 @@ pub mod Choices
 pub mod Lists
 pub mod Ranges
 pub mod EachLemmas
+pub mod ArrayLemmas
 pub mod SourceLemmas
 pub mod RouterLemmas
 pub mod AccessLemmas

@@ -40,12 +40,12 @@ pub(crate) fn optional_table(table: &Table, key: Key) -> Result<Option<&Table>, 
     ensures ok { IfOk result (λ found. optional as_table key (table_view table.now) ≡ Ok (option_map (λ inner. table_view inner.now) found)) }
     ensures refused { IfErr result (λ fault. optional as_table key (table_view table.now) ≡ Err fault) }
 {
-    match value_at(table, key) {
-        Some(value) => value
-            .as_table()
-            .map(Some)
-            .ok_or(SubscriptionFault::Field(key)),
-        None => Ok(None),
+    let Some(value) = value_at(table, key) else {
+        return Ok(None);
+    };
+    match value.as_table() {
+        Some(table) => Ok(Some(table)),
+        None => Err(SubscriptionFault::Field(key)),
     }
 }
 

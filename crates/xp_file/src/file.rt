@@ -120,11 +120,12 @@ fn address_of(table: &Table, key: Key) -> Result<Digits, SubscriptionFault>
 fn preferential_of(table: &Table) -> Result<Option<u16>, SubscriptionFault>
     ensures { result ≡ optional (number_in 0 9999) keys.Preferential (table_view table.now) }
 {
-    match value_at(table, Key::Preferential) {
-        Some(value) => short(value, 0, MAX_INDEX)
-            .map(Some)
-            .ok_or(SubscriptionFault::Field(Key::Preferential)),
-        None => Ok(None),
+    let Some(value) = value_at(table, Key::Preferential) else {
+        return Ok(None);
+    };
+    match short(value, 0, MAX_INDEX) {
+        Some(index) => Ok(Some(index)),
+        None => Err(SubscriptionFault::Field(Key::Preferential)),
     }
 }
 
@@ -326,11 +327,12 @@ fn xot_port(table: &Table) -> Result<u16, SubscriptionFault>
 fn exchange_name(table: &Table) -> Result<Option<Name>, SubscriptionFault>
     ensures { result ≡ optional group_name_in keys.Name (table_view table.now) }
 {
-    match value_at(table, Key::Name) {
-        Some(value) => group_name(value)
-            .map(Some)
-            .ok_or(SubscriptionFault::Field(Key::Name)),
-        None => Ok(None),
+    let Some(value) = value_at(table, Key::Name) else {
+        return Ok(None);
+    };
+    match group_name(value) {
+        Some(name) => Ok(Some(name)),
+        None => Err(SubscriptionFault::Field(Key::Name)),
     }
 }
 

@@ -33,7 +33,7 @@ fn port_of(table: &Table) -> Result<Option<u16>, SubscriptionFault>
     ensures { result ≡ port_of (table_view table.now) }
 {
     match value_at(table, Key::Router) {
-        None => required_port(table).map(Some),
+        None => Ok(Some(required_port(table)?)),
         Some(_) => optional_port(table),
     }
 }
@@ -50,11 +50,12 @@ fn required_port(table: &Table) -> Result<u16, SubscriptionFault>
 fn optional_port(table: &Table) -> Result<Option<u16>, SubscriptionFault>
     ensures { result ≡ optional (number_in 1 65535) keys.Port (table_view table.now) }
 {
-    match value_at(table, Key::Port) {
-        Some(value) => port(value)
-            .map(Some)
-            .ok_or(SubscriptionFault::Field(Key::Port)),
-        None => Ok(None),
+    let Some(value) = value_at(table, Key::Port) else {
+        return Ok(None);
+    };
+    match port(value) {
+        Some(port) => Ok(Some(port)),
+        None => Err(SubscriptionFault::Field(Key::Port)),
     }
 }
 
@@ -83,11 +84,12 @@ fn access_of(table: &Table) -> Result<Access, SubscriptionFault>
 fn own_address_of(table: &Table) -> Result<Option<Digits>, SubscriptionFault>
     ensures { result ≡ optional address_in keys.Address (table_view table.now) }
 {
-    match value_at(table, Key::Address) {
-        Some(value) => address(value)
-            .map(Some)
-            .ok_or(SubscriptionFault::Field(Key::Address)),
-        None => Ok(None),
+    let Some(value) = value_at(table, Key::Address) else {
+        return Ok(None);
+    };
+    match address(value) {
+        Some(address) => Ok(Some(address)),
+        None => Err(SubscriptionFault::Field(Key::Address)),
     }
 }
 

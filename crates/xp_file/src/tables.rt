@@ -1,15 +1,15 @@
 //! Reads arrays of tables, and each table in turn.
-ghost use Rattle.std.specs.Prelude.{◌≡◌, ◌≢◌, ◌<◌, [], length, Ok, Err, None, Some, IfOk, IfErr, option_map, map};
+ghost use Rattle.std.specs.Prelude.{◌≡◌, ◌≢◌, ◌<◌, [], length, Ok, Err, None, Some, IfOk, IfErr, map};
 ghost use Rattle.std.specs.Fn.{FnReturnsAt};
 ghost use Rattle.toml.specs.View.{items_view, table_view};
-ghost use Rattle.xp_file.specs.declared.fault.SubscriptionFault.TheVariants.{Memory as OutOfMemory};
+ghost use Rattle.xp_file.specs.declared.fault.SubscriptionFault.TheVariants.{Field, Memory as OutOfMemory};
 ghost use Rattle.xp_file.specs.Reading.{each, examined, tables_among, tables_in, some_tables_in, required, defaulted};
 ghost use Rattle.xp_file.specs.steps.Reading.{Reads};
 
 use crate::fault::SubscriptionFault;
 use crate::field::value_at;
 use crate::key::Key;
-use std::alloc::{AllocError, Global};
+use std::alloc::Global;
 use toml::{Table, Value};
 
 /// The tables of an array, which must be there and have at least one table.
@@ -22,12 +22,16 @@ pub(crate) fn some_tables_at(
     ensures refused { IfErr result (λ fault. fault ≢ OutOfMemory → required some_tables_in key (table_view table.now) ≡ Err fault) }
     ensures some { IfOk result (λ tables. 0 < length tables.items) }
 {
-    let array = value_at(table, key)
-        .and_then(|value| value.as_array())
-        .ok_or(SubscriptionFault::Field(key))?;
-    tables_among(alloc, array)?
-        .filter(|tables| !tables.is_empty())
-        .ok_or(SubscriptionFault::Field(key))
+    let Some(value) = value_at(table, key) else {
+        return Err(SubscriptionFault::Field(key));
+    };
+    let Some(values) = value.as_array() else {
+        return Err(SubscriptionFault::Field(key));
+    };
+    if values.is_empty() {
+        return Err(SubscriptionFault::Field(key));
+    }
+    tables_among(alloc, values, key)
 }
 
 /// The tables of an array. There are none if the key is missing.
@@ -42,22 +46,26 @@ pub(crate) fn tables_at(
     let Some(value) = value_at(table, key) else {
         return Ok(Vec::new(alloc));
     };
-    let array = value.as_array().ok_or(SubscriptionFault::Field(key))?;
-    tables_among(alloc, array)?.ok_or(SubscriptionFault::Field(key))
+    let Some(values) = value.as_array() else {
+        return Err(SubscriptionFault::Field(key));
+    };
+    tables_among(alloc, values, key)
 }
 
-/// The values as tables. `None` if one of them is not a table.
-fn tables_among(alloc: Global, values: &[Value]) -> Result<Option<Vec<&Table>>, AllocError>
-    ensures { IfOk result (λ found. tables_among (items_view values.now) ≡ option_map (λ tables. map (λ inner. table_view inner.now) tables.items) found) }
+/// The values as tables. The fault is that of the key if one of them is not a table.
+fn tables_among(alloc: Global, values: &[Value], key: Key) -> Result<Vec<&Table>, SubscriptionFault>
+    ensures ok { IfOk result (λ tables. tables_among (items_view values.now) ≡ Some (map (λ inner. table_view inner.now) tables.items)) }
+    ensures count { IfOk result (λ tables. length tables.items ≡ length values.now) }
+    ensures refused { IfErr result (λ fault. fault ≢ OutOfMemory → (tables_among (items_view values.now) ≡ None) × (fault ≡ Field key)) }
 {
     let mut tables = Vec::new(alloc);
     for value in values {
         let Some(inner) = value.as_table() else {
-            return Ok(None);
+            return Err(SubscriptionFault::Field(key));
         };
         tables.push(inner)?;
     }
-    Ok(Some(tables))
+    Ok(tables)
 }
 
 /// Reads each table. Stops at the first fault.

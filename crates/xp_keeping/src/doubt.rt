@@ -1,20 +1,19 @@
 //! Writing the records in doubt, as a run ends whose records go to a file.
 
-ghost use Rattle.std.specs.Prelude.{[], IfSome};
+ghost use Rattle.std.specs.Prelude.{IfSome};
 ghost use Rattle.xp_keeping.specs.Doubt.{IsOfRun, WritesDoubted};
-ghost use Rattle.xp_keeping.specs.Printing.{Prints};
 
 use crate::details::DetailKeeper;
 use crate::keep_fault::KeepFault;
 use crate::left::write_left;
 use crate::queued::QueuedKeeper;
+use crate::writing::{flush, write_lines};
 use log::Log;
 use std::alloc::Global;
 use std::io::Write;
 use std::sync::Wait;
 use std::thread::Threads;
 use xp_cdr::{ExchangeRun, RecordFile};
-use xp_writing::write_out;
 
 /// Writes the call detail records of the records in doubt on the output, of this run, and flushes the output. The thread of the keeper writes nothing there, also where it was given up and goes on.
 ///
@@ -49,25 +48,5 @@ fn write_unflushed<F: RecordFile, L: Log + Drop, R: Threads + Wait + Copy, W: Wr
     match keeper.last() {
         Some(last) => write_lines(last.unfinished_lines(), output),
         None => write_left(alloc, run, keeper.left(), output),
-    }
-}
-
-/// Writes lines.
-fn write_lines<W: Write>(lines: &[u8], output: &mut W) -> Result<(), KeepFault>
-    ensures { Prints (W.contents output.old) (W.contents output.new) lines.now result }
-{
-    match write_out(output, lines) {
-        Ok(()) => Ok(()),
-        Err(_) => Err(KeepFault::Output),
-    }
-}
-
-/// Flushes the output.
-fn flush<W: Write>(output: &mut W) -> Result<(), KeepFault>
-    ensures { Prints (W.contents output.old) (W.contents output.new) [] result }
-{
-    match output.flush() {
-        Ok(()) => Ok(()),
-        Err(_) => Err(KeepFault::Output),
     }
 }

@@ -6,11 +6,11 @@ ghost use Rattle.xp_keeping.specs.Printing.{Prints};
 ghost use Rattle.xp_keeping.specs.steps.Printing.{PrintsOn};
 
 use crate::keep_fault::KeepFault;
+use crate::writing::write_lines;
 use std::alloc::Global;
 use std::collections::VecDeque;
 use std::io::Write;
 use xp_cdr::{EndedCall, ExchangeRun, write_detail};
-use xp_writing::write_out;
 
 /// Writes the call detail records of these calls, in order, of this run.
 ///
@@ -72,8 +72,5 @@ fn write_one<W: Write>(
 {
     let mut text = Vec::new(alloc);
     write_detail(alloc, run, call, &mut text)?;
-    match write_out(output, &text) {
-        Ok(()) => Ok(()),
-        Err(_) => Err(KeepFault::Output),
-    }
+    write_lines(&text, output)
 }

@@ -16,6 +16,7 @@ mod record_thread;
 mod signal;
 mod starting;
 mod telling;
+mod writing;
 
 pub use call_keeper::CallKeeper;
 pub use details::DetailKeeper;

@@ -7,6 +7,7 @@ ghost use Rattle.xp_keeping.specs.steps.Printing.{PrintsOn};
 
 use crate::call_keeper::{CallKeeper, count_on};
 use crate::keep_fault::KeepFault;
+use crate::writing::{flush, write_lines};
 use std::alloc::Global;
 use std::io::Write;
 use std::marker::Model;
@@ -14,7 +15,6 @@ use std::snapshot::Snapshot;
 use xp_cdr::{EndedCall, write_record};
 use xp_past::Past;
 use xp_sink::Received;
-use xp_writing::write_out;
 
 /// Writes charging records, each as one line. Once memory was wanting or the writer failed, it writes nothing more.
 #[derive(Drop)]
@@ -164,10 +164,7 @@ fn print_records<W: Write>(
     for call in calls {
         print_record(call, text, writer)?;
     }
-    match writer.flush() {
-        Ok(()) => Ok(()),
-        Err(_) => Err(KeepFault::Output),
-    }
+    flush(writer)
 }
 
 /// Writes the line of a charging record, which it makes in the room of the one before.
@@ -180,8 +177,5 @@ fn print_record<W: Write>(
 {
     text.clear();
     write_record(call, text)?;
-    match write_out(writer, text) {
-        Ok(()) => Ok(()),
-        Err(_) => Err(KeepFault::Output),
-    }
+    write_lines(text, writer)
 }

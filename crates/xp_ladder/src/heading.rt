@@ -37,24 +37,13 @@ impl fmt::Display for Heading<'_> {
     ghost output = { λ heading. Some (heading_text heading.left.now heading.right.now) };
 
     fn fmt<W: fmt::Write>(&self, f: &mut fmt::Formatter<W>) -> fmt::Result {
-        let indented = Indented(self.left);
+        let moments = Repeated::spaces(11);
         let exchange = Repeated::spaces(34usize.saturating_sub(width(self.left)));
         let right = Repeated::spaces(27usize.saturating_sub(width(self.right)));
-        write!(f, "{indented}{exchange}exchange{right}{}", self.right)
-    }
-}
-
-/// A name behind the column of moments.
-#[derive(Clone, Copy)]
-struct Indented<'a>(&'a str);
-
-impl fmt::Display for Indented<'_> {
-    ghost use Rattle.std.specs.Prelude.{◌++◌, Some};
-    ghost use Rattle.xp_ladder.specs.Ladder.{spaces};
-
-    ghost output = { λ name. Some (spaces 11 ++ name.0.now) };
-
-    fn fmt<W: fmt::Write>(&self, f: &mut fmt::Formatter<W>) -> fmt::Result {
-        write!(f, "{}{}", Repeated::spaces(11), self.0)
+        write!(
+            f,
+            "{moments}{}{exchange}exchange{right}{}",
+            self.left, self.right
+        )
     }
 }

@@ -51,30 +51,6 @@ impl fmt::Display for Rung<'_> {
 
     fn fmt<W: fmt::Write>(&self, f: &mut fmt::Formatter<W>) -> fmt::Result {
         let moment = self.moment;
-        let halves = Halves {
-            side: self.side,
-            direction: self.direction,
-            words: self.words,
-        };
-        write!(f, "{moment:>10} │{halves}│")
-    }
-}
-
-/// What stands between the outer poles.
-#[derive(Clone, Copy)]
-struct Halves<'a> {
-    side: Side,
-    direction: Direction,
-    words: &'a str,
-}
-
-impl fmt::Display for Halves<'_> {
-    ghost use Rattle.std.specs.Prelude.{Some};
-    ghost use Rattle.xp_ladder.specs.Ladder.{arrow, halves};
-
-    ghost output = { λ between. Some (halves between.side (arrow between.side between.direction between.words.now)) };
-
-    fn fmt<W: fmt::Write>(&self, f: &mut fmt::Formatter<W>) -> fmt::Result {
         let empty = Repeated::spaces(BETWEEN);
         let arrow = Arrow {
             side: self.side,
@@ -82,8 +58,8 @@ impl fmt::Display for Halves<'_> {
             words: self.words,
         };
         match self.side {
-            Side::Left => write!(f, "{arrow}│{empty}"),
-            Side::Right => write!(f, "{empty}│{arrow}"),
+            Side::Left => write!(f, "{moment:>10} │{arrow}│{empty}│"),
+            Side::Right => write!(f, "{moment:>10} │{empty}│{arrow}│"),
         }
     }
 }
@@ -108,13 +84,10 @@ impl fmt::Display for Arrow<'_> {
             text: "─",
             count: WORDS.saturating_sub(width(words)),
         };
-        match (self.side, self.direction) {
-            (Side::Left, Direction::FromDte) | (Side::Right, Direction::FromDce) => {
-                write!(f, "─ {words} {dashes}►")
-            }
-            (Side::Left, Direction::FromDce) | (Side::Right, Direction::FromDte) => {
-                write!(f, "◄ {words} {dashes}─")
-            }
-        }
+        let (tail, head) = match (self.side, self.direction) {
+            (Side::Left, Direction::FromDte) | (Side::Right, Direction::FromDce) => ("─", "►"),
+            (Side::Left, Direction::FromDce) | (Side::Right, Direction::FromDte) => ("◄", "─"),
+        };
+        write!(f, "{tail} {words} {dashes}{head}")
     }
 }

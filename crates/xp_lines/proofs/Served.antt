@@ -77,9 +77,9 @@ module _ {X Y : Type 0} (R : X → Y → Type 0) where
       let so = so_far done each in
       subst (λ xs. AreEach R (done ++ xs) new) (sym (append-nil so.0) ∙ ap (λ xs. so.0 ++ xs) (sym none) ∙ so.1) so.2
 
-module _ {N P C L : Type 0} where
+module _ {N P C B L : Type 0} where
   -- the lines of one thread more
-  pub begun_more : (begun : List (Result (PromisedHandle (Vec (Pass Alloc) Alloc) (OfLines N P C L)) (Vec (Pass Alloc) Alloc))) (one : Result (PromisedHandle (Vec (Pass Alloc) Alloc) (OfLines N P C L)) (Vec (Pass Alloc) Alloc))
+  pub begun_more : (begun : List (Result (PromisedHandle (Vec (Pass Alloc) Alloc) (OfLines N P C B L)) (Vec (Pass Alloc) Alloc))) (one : Result (PromisedHandle (Vec (Pass Alloc) Alloc) (OfLines N P C B L)) (Vec (Pass Alloc) Alloc))
       → begun_lines (begun ++ one ∷ []) ≡ begun_lines begun ++ lines_of one
   begun_more [] one = append-nil (lines_of one)
   begun_more (first ∷ more) one = ap (λ rest. lines_of first ++ rest) (begun_more more one) ∙ sym (append_assoc (lines_of first) (begun_lines more) (lines_of one))

@@ -13,15 +13,15 @@ use crate::session::Session;
 use crate::shared::Shared;
 use crate::waiting::Waiting;
 use std::sync::Wait;
-use xp_links::{Clock, Link};
+use xp_links::{Bell, Clock, Link};
 use xp_seats::Name;
 
 /// Offers that the line's last link went, and drops it, if there is one. Returns why the line has ended. Where it is to stop, but
 /// the exchange refuses the Down, that is why.
-pub(crate) fn close<N: Name, L: Link, C: Clock, R: Wait>(
+pub(crate) fn close<N: Name, L: Link, C: Clock, B: Bell, R: Wait>(
     rt: &R,
     shared: &Shared<'_, N>,
-    seat: &mut Seat<N, C>,
+    seat: &mut Seat<N, C, B>,
     why: EndReason,
     session: Option<Session<L>>,
 ) -> EndReason
@@ -52,10 +52,10 @@ fn why_without_down(why: EndReason, refused: Over) -> EndReason
 
 /// Offers that the link of a line that is to stop went. If the exchange accepts that, what still waits for the link is left to be
 /// written. Where an allocation fails the line stays as it is, and the Down is to be offered again.
-pub(crate) fn stop<N: Name, L: Link, C: Clock, R: Wait>(
+pub(crate) fn stop<N: Name, L: Link, C: Clock, B: Bell, R: Wait>(
     rt: &R,
     shared: &Shared<'_, N>,
-    seat: &mut Seat<N, C>,
+    seat: &mut Seat<N, C, B>,
     session: Option<Session<L>>,
 ) -> LineState<L>
     ensures { GoesOnTo N.subs L.pushed L.pulled session seat.old.pass result seat.new.pass }
@@ -89,10 +89,10 @@ fn reason_at(refused: Over) -> EndReason
 /// Writes what still waits for a link whose Down the exchange has accepted, as far as the link takes it: the octets that are left,
 /// and the outputs for this connection that the outbox has. Those are the last ones. `None` where none of them is left, the link is
 /// broken or closed, or an allocation fails.
-pub(crate) fn write_rest<N: Name, L: Link, C: Clock, R: Wait>(
+pub(crate) fn write_rest<N: Name, L: Link, C: Clock, B: Bell, R: Wait>(
     rt: &R,
     shared: &Shared<'_, N>,
-    seat: &mut Seat<N, C>,
+    seat: &mut Seat<N, C, B>,
     session: Session<L>,
 ) -> Option<Session<L>>
     ensures { WritesOn (modulus_of N.subs seat.old.pass.line) L.pushed session seat.old.pass result seat.new.pass }

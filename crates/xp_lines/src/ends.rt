@@ -10,12 +10,12 @@ use crate::line::LineEnd;
 use crate::served_line::ServedLine;
 use std::alloc::Global;
 use std::vec::IntoIter;
-use xp_links::{Clock, Port};
+use xp_links::{Bell, Clock, Port};
 use xp_seats::Name;
 
 /// Adds how these lines ended.
-pub(crate) fn add_ends<N: Name, P: Port, C: Clock>(
-    lines: Vec<ServedLine<N, P, C>>,
+pub(crate) fn add_ends<N: Name, P: Port, C: Clock, B: Bell>(
+    lines: Vec<ServedLine<N, P, C, B>>,
     ends: Vec<LineEnd<N>>,
 ) -> Vec<LineEnd<N>>
     requires room { vec_len ends + vec_len lines ≤ vec_capacity ends }
@@ -31,8 +31,8 @@ pub(crate) fn add_ends<N: Name, P: Port, C: Clock>(
 }
 
 /// Adds that these lines ended as they have no thread, or that could not be started.
-pub(crate) fn add_unstarted<N: Name, P: Port, C: Clock>(
-    lines: IntoIter<ServedLine<N, P, C>, Global>,
+pub(crate) fn add_unstarted<N: Name, P: Port, C: Clock, B: Bell>(
+    lines: IntoIter<ServedLine<N, P, C, B>, Global>,
     ends: Vec<LineEnd<N>>,
 ) -> Vec<LineEnd<N>>
     requires many { length (into_iter_items lines) ≡ into_iter_len lines }

@@ -6,14 +6,14 @@ ghost use Rattle.std.specs.Vec.Iter.{into_iter_items, into_iter_len};
 use crate::served_line::{LineInputs, ServedLine};
 use std::alloc::{AllocError, Global};
 use std::vec::IntoIter;
-use xp_links::{Clock, Poller, Port};
+use xp_links::{Bell, Clock, Poller, Port};
 use xp_seats::Name;
 
 /// The lines with these inputs, which have had no turn, where there is room for them.
-pub(crate) fn served_of<N: Name, P: Port, C: Clock>(
-    inputs: Vec<LineInputs<N, P, C>>,
-    room: Vec<ServedLine<N, P, C>>,
-) -> Vec<ServedLine<N, P, C>>
+pub(crate) fn served_of<N: Name, P: Port, C: Clock, B: Bell>(
+    inputs: Vec<LineInputs<N, P, C, B>>,
+    room: Vec<ServedLine<N, P, C, B>>,
+) -> Vec<ServedLine<N, P, C, B>>
     requires room { vec_len room + vec_len inputs ≤ vec_capacity room }
     requires none { room.items ≡ [] }
     ensures lines { result.items ≡ map (λ line. line.pass) inputs.items }
@@ -28,16 +28,16 @@ pub(crate) fn served_of<N: Name, P: Port, C: Clock>(
 
 /// A thread, and room for its lines.
 #[derive(Drop)]
-pub(crate) struct ThreadGroup<N: Name, P: Port, C: Clock, T: Poller> {
+pub(crate) struct ThreadGroup<N: Name, P: Port, C: Clock, B: Bell, T: Poller> {
     pub(crate) poller: T,
-    pub(crate) room: Vec<ServedLine<N, P, C>>,
+    pub(crate) room: Vec<ServedLine<N, P, C, B>>,
 }
 
 /// The threads, each with room for its lines.
-pub(crate) fn groups_of<N: Name, P: Port, C: Clock, T: Poller>(
+pub(crate) fn groups_of<N: Name, P: Port, C: Clock, B: Bell, T: Poller>(
     alloc: Global,
     pollers: Vec<T>,
-) -> Result<Vec<ThreadGroup<N, P, C, T>>, AllocError> {
+) -> Result<Vec<ThreadGroup<N, P, C, B, T>>, AllocError> {
     let mut groups = Vec::with_capacity(alloc, pollers.len())?;
     for poller in pollers {
         let room = Vec::with_capacity(alloc, poller.lines())?;
@@ -47,11 +47,11 @@ pub(crate) fn groups_of<N: Name, P: Port, C: Clock, T: Poller>(
 }
 
 /// Takes the next lines, so many at most, and no more than there is room for.
-pub(crate) fn fill<N: Name, P: Port, C: Clock>(
-    room: Vec<ServedLine<N, P, C>>,
+pub(crate) fn fill<N: Name, P: Port, C: Clock, B: Bell>(
+    room: Vec<ServedLine<N, P, C, B>>,
     most: usize,
-    left: &mut IntoIter<ServedLine<N, P, C>, Global>,
-) -> Vec<ServedLine<N, P, C>>
+    left: &mut IntoIter<ServedLine<N, P, C, B>, Global>,
+) -> Vec<ServedLine<N, P, C, B>>
     requires many { length (into_iter_items left.old) ≡ into_iter_len left.old }
     ensures lines { into_iter_items left.old ≡ result.items ++ into_iter_items left.new }
     ensures many { length (into_iter_items left.new) ≡ into_iter_len left.new }

@@ -14,7 +14,7 @@ use crate::waiting::Waiting;
 use std::alloc::{Allocator, Global};
 use std::sync::Wait;
 use xp_frames::Deframer;
-use xp_links::{Arrived, Clock, Link, Port};
+use xp_links::{Arrived, Bell, Clock, Link, Port};
 use xp_lock::LinePass;
 use xp_seats::Name;
 
@@ -59,10 +59,10 @@ pub(crate) struct Step<L: Link, A: Allocator> {
 }
 
 /// One turn of a line, on its link if it has one.
-pub(crate) fn have_turn<N: Name, P: Port, C: Clock, A: Allocator + Copy, R: Wait>(
+pub(crate) fn have_turn<N: Name, P: Port, C: Clock, B: Bell, A: Allocator + Copy, R: Wait>(
     rt: &R,
     shared: &Shared<'_, N, A>,
-    seat: &mut Seat<N, C, A>,
+    seat: &mut Seat<N, C, B, A>,
     port: &mut P,
     session: Option<Session<P::Link, A>>,
 ) -> Step<P::Link, A>
@@ -76,10 +76,10 @@ pub(crate) fn have_turn<N: Name, P: Port, C: Clock, A: Allocator + Copy, R: Wait
 }
 
 /// A turn on a link.
-fn go_on<N: Name, L: Link, C: Clock, A: Allocator + Copy, R: Wait>(
+fn go_on<N: Name, L: Link, C: Clock, B: Bell, A: Allocator + Copy, R: Wait>(
     rt: &R,
     shared: &Shared<'_, N, A>,
-    seat: &mut Seat<N, C, A>,
+    seat: &mut Seat<N, C, B, A>,
     session: Session<L, A>,
 ) -> Step<L, A>
     ensures line { seat.new.pass.line ≡ seat.old.pass.line }
@@ -105,10 +105,10 @@ fn go_on<N: Name, L: Link, C: Clock, A: Allocator + Copy, R: Wait>(
 }
 
 /// A turn without a link: it takes the next link from the port, if one has come.
-fn connect<N: Name, P: Port, C: Clock, A: Allocator + Copy, R: Wait>(
+fn connect<N: Name, P: Port, C: Clock, B: Bell, A: Allocator + Copy, R: Wait>(
     rt: &R,
     shared: &Shared<'_, N, A>,
-    seat: &mut Seat<N, C, A>,
+    seat: &mut Seat<N, C, B, A>,
     port: &mut P,
 ) -> Step<P::Link, A>
     ensures line { seat.new.pass.line ≡ seat.old.pass.line }
@@ -123,7 +123,7 @@ fn connect<N: Name, P: Port, C: Clock, A: Allocator + Copy, R: Wait>(
             come_up(rt, shared, seat, link)
         }
         Arrived::Nothing => {
-            seat.clock.idle();
+            seat.bell.idle();
             unlinked(None)
         }
         Arrived::Fault => unlinked(Some(EndReason::Port)),
@@ -138,10 +138,10 @@ fn unlinked<L: Link, A: Allocator>(end: Option<EndReason>) -> Step<L, A>
 }
 
 /// Drops the outputs that the exchange put out over an earlier link.
-fn drain<N: Name, C: Clock, A: Allocator + Copy, R: Wait>(
+fn drain<N: Name, C: Clock, B: Bell, A: Allocator + Copy, R: Wait>(
     rt: &R,
     shared: &Shared<'_, N, A>,
-    seat: &mut Seat<N, C, A>,
+    seat: &mut Seat<N, C, B, A>,
 )
     ensures { Drops seat.old.pass seat.new.pass }
 {
@@ -153,10 +153,10 @@ fn drain<N: Name, C: Clock, A: Allocator + Copy, R: Wait>(
 }
 
 /// Offers that a link came. If the exchange refuses that, the link is dropped.
-fn come_up<N: Name, L: Link, C: Clock, A: Allocator + Copy, R: Wait>(
+fn come_up<N: Name, L: Link, C: Clock, B: Bell, A: Allocator + Copy, R: Wait>(
     rt: &R,
     shared: &Shared<'_, N, A>,
-    seat: &mut Seat<N, C, A>,
+    seat: &mut Seat<N, C, B, A>,
     link: L,
 ) -> Step<L, A>
     ensures line { seat.new.pass.line ≡ seat.old.pass.line }

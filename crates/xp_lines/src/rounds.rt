@@ -6,7 +6,7 @@ use crate::line::EndReason;
 use crate::served_line::ServedLine;
 use crate::shared::Shared;
 use std::sync::Wait;
-use xp_links::{Clock, Patience, Poller, Port};
+use xp_links::{Bell, Clock, Patience, Poller, Port};
 use xp_seats::Name;
 
 /// How often the Down of a line that is to stop is offered at most.
@@ -24,12 +24,12 @@ const MOST_WRITES: u32 = 10_000;
 /// At the end each line offers the Down of a link that is still there. Where an allocation fails, lines that were asked to stop
 /// offer it again, at most 100 times. Once the exchange has accepted their Downs, they write what still waits for their links, for
 /// at most 5 seconds, and only then drop them.
-pub(crate) fn serve_lines<N: Name, P: Port, C: Clock, T: Poller, R: Wait>(
+pub(crate) fn serve_lines<N: Name, P: Port, C: Clock, B: Bell, T: Poller, R: Wait>(
     rt: &R,
     shared: &Shared<'_, N>,
-    lines: Vec<ServedLine<N, P, C>>,
+    lines: Vec<ServedLine<N, P, C, B>>,
     poller: T,
-) -> Vec<ServedLine<N, P, C>>
+) -> Vec<ServedLine<N, P, C, B>>
     ensures { result.items ≡ lines.items }
 {
     let mut lines = lines;
@@ -46,10 +46,10 @@ pub(crate) fn serve_lines<N: Name, P: Port, C: Clock, T: Poller, R: Wait>(
 }
 
 /// Has rounds of turns, until there were as many as the limits say, the lines are to stop, or all have ended.
-fn have_rounds<N: Name, P: Port, C: Clock, T: Poller, R: Wait>(
+fn have_rounds<N: Name, P: Port, C: Clock, B: Bell, T: Poller, R: Wait>(
     rt: &R,
     shared: &Shared<'_, N>,
-    lines: &mut Vec<ServedLine<N, P, C>>,
+    lines: &mut Vec<ServedLine<N, P, C, B>>,
     poller: &mut T,
 )
     ensures { lines.new.items ≡ lines.old.items }
@@ -88,10 +88,10 @@ impl Round {
 }
 
 /// A turn of each line that is due.
-fn have_round<N: Name, P: Port, C: Clock, T: Poller, R: Wait>(
+fn have_round<N: Name, P: Port, C: Clock, B: Bell, T: Poller, R: Wait>(
     rt: &R,
     shared: &Shared<'_, N>,
-    lines: &mut Vec<ServedLine<N, P, C>>,
+    lines: &mut Vec<ServedLine<N, P, C, B>>,
     poller: &mut T,
 ) -> Round
     ensures { lines.new.items ≡ lines.old.items }
@@ -103,7 +103,7 @@ fn have_round<N: Name, P: Port, C: Clock, T: Poller, R: Wait>(
             return Round { ended, is_held };
         };
         if let Some(line) = lines.get_mut(place) {
-            let has_ended = have_turn(rt, shared, line);
+            let has_ended = line.have_turn(rt, shared);
             ended = ended.saturating_add(usize::from(has_ended));
             if line.is_held() {
                 poller.hold(place);
@@ -114,24 +114,11 @@ fn have_round<N: Name, P: Port, C: Clock, T: Poller, R: Wait>(
     Round { ended, is_held }
 }
 
-/// A turn of a line. Returns whether it has ended in it.
-fn have_turn<N: Name, P: Port, C: Clock, R: Wait>(
-    rt: &R,
-    shared: &Shared<'_, N>,
-    line: &mut ServedLine<N, P, C>,
-) -> bool
-    ensures { line.new ≡ line.old }
-{
-    let was_open = line.is_open();
-    line.have_turn(rt, shared);
-    was_open && !line.is_open()
-}
-
 /// Stops each line. Where an allocation fails for the Down of one, it is tried again after a moment.
-fn stop_all<N: Name, P: Port, C: Clock, T: Poller, R: Wait>(
+fn stop_all<N: Name, P: Port, C: Clock, B: Bell, T: Poller, R: Wait>(
     rt: &R,
     shared: &Shared<'_, N>,
-    lines: &mut Vec<ServedLine<N, P, C>>,
+    lines: &mut Vec<ServedLine<N, P, C, B>>,
     poller: &mut T,
 )
     ensures { lines.new.items ≡ lines.old.items }
@@ -145,10 +132,10 @@ fn stop_all<N: Name, P: Port, C: Clock, T: Poller, R: Wait>(
 }
 
 /// Asks each line to stop. Returns whether one has to be asked again.
-fn stop_each<N: Name, P: Port, C: Clock, R: Wait>(
+fn stop_each<N: Name, P: Port, C: Clock, B: Bell, R: Wait>(
     rt: &R,
     shared: &Shared<'_, N>,
-    lines: &mut Vec<ServedLine<N, P, C>>,
+    lines: &mut Vec<ServedLine<N, P, C, B>>,
 ) -> bool
     ensures { lines.new.items ≡ lines.old.items }
 {
@@ -161,10 +148,10 @@ fn stop_each<N: Name, P: Port, C: Clock, R: Wait>(
 }
 
 /// Writes what stopped lines have still to write, until none of it is left or the time is up.
-fn write_all<N: Name, P: Port, C: Clock, T: Poller, R: Wait>(
+fn write_all<N: Name, P: Port, C: Clock, B: Bell, T: Poller, R: Wait>(
     rt: &R,
     shared: &Shared<'_, N>,
-    lines: &mut Vec<ServedLine<N, P, C>>,
+    lines: &mut Vec<ServedLine<N, P, C, B>>,
     poller: &mut T,
 )
     ensures { lines.new.items ≡ lines.old.items }
@@ -180,10 +167,10 @@ fn write_all<N: Name, P: Port, C: Clock, T: Poller, R: Wait>(
 }
 
 /// Lets each stopped line write. Returns whether one has still something to write.
-fn write_each<N: Name, P: Port, C: Clock, R: Wait>(
+fn write_each<N: Name, P: Port, C: Clock, B: Bell, R: Wait>(
     rt: &R,
     shared: &Shared<'_, N>,
-    lines: &mut Vec<ServedLine<N, P, C>>,
+    lines: &mut Vec<ServedLine<N, P, C, B>>,
 ) -> bool
     ensures { lines.new.items ≡ lines.old.items }
 {
@@ -195,7 +182,7 @@ fn write_each<N: Name, P: Port, C: Clock, R: Wait>(
 }
 
 /// The time by the clock of the lines, in seconds: the latest of them.
-fn time_of<N: Name, P: Port, C: Clock>(lines: &mut Vec<ServedLine<N, P, C>>) -> u64
+fn time_of<N: Name, P: Port, C: Clock, B: Bell>(lines: &mut Vec<ServedLine<N, P, C, B>>) -> u64
     ensures { lines.new.items ≡ lines.old.items }
 {
     let mut now = 0;
@@ -206,10 +193,10 @@ fn time_of<N: Name, P: Port, C: Clock>(lines: &mut Vec<ServedLine<N, P, C>>) -> 
 }
 
 /// Ends each line that has not ended, since its turns are over.
-fn end_all<N: Name, P: Port, C: Clock, R: Wait>(
+fn end_all<N: Name, P: Port, C: Clock, B: Bell, R: Wait>(
     rt: &R,
     shared: &Shared<'_, N>,
-    lines: &mut Vec<ServedLine<N, P, C>>,
+    lines: &mut Vec<ServedLine<N, P, C, B>>,
 )
     ensures { lines.new.items ≡ lines.old.items }
 {

@@ -16,7 +16,7 @@ use crate::signals::Signals;
 use crate::waiting::Waiting;
 use std::alloc::{Allocator, Global};
 use std::sync::Wait;
-use xp_links::Clock;
+use xp_links::{Bell, Clock};
 use xp_lock::{ExchangeGuard, LinePass, OfferFault, Receipt};
 use xp_seats::Name;
 use xp_step::Event;
@@ -24,23 +24,25 @@ use xp_subs::LineNo;
 
 /// The place of a line in the exchange: what each of its turns needs beside the line's link.
 #[derive(Drop)]
-pub struct Seat<N: Name, C: Clock, A: Allocator = Global> {
+pub struct Seat<N: Name, C: Clock, B: Bell, A: Allocator = Global> {
     pub pass: LinePass<N, A>,
     pub clock: C,
-    /// The other line that received an output last. Its thread is still to be woken.
+    pub(crate) bell: B,
+    /// The other line that received an output last. Its bell is still to be rung.
     given: Option<LineNo>,
     /// Whether the line was the first to tell of new charging records in its last turn. Mostly a call of the line ended in it.
     pub(crate) has_new_records: bool,
 }
 
-impl<N: Name, C: Clock, A: Allocator + Copy> Seat<N, C, A> {
-    /// The seat of the line with this pass and clock.
-    pub fn new(pass: LinePass<N, A>, clock: C) -> Seat<N, C, A>
+impl<N: Name, C: Clock, B: Bell, A: Allocator + Copy> Seat<N, C, B, A> {
+    /// The seat of the line with this pass, clock and bell.
+    pub fn new(pass: LinePass<N, A>, clock: C, bell: B) -> Seat<N, C, B, A>
         ensures { result.pass ≡ pass }
     {
         Seat {
             pass,
             clock,
+            bell,
             given: None,
             has_new_records: false,
         }
@@ -58,7 +60,7 @@ impl<N: Name, C: Clock, A: Allocator + Copy> Seat<N, C, A> {
         self.pass
     }
 
-    /// Offers one event of the line, at this moment, in seconds. After releasing the lock, the thread wakes each other line that
+    /// Offers one event of the line, at this moment, in seconds. After releasing the lock, the thread rings for each other line that
     /// received outputs by it, and tells the recording thread of new records.
     ///
     /// # Errors
@@ -106,7 +108,7 @@ impl<N: Name, C: Clock, A: Allocator + Copy> Seat<N, C, A> {
     }
 
     /// Offers events in order, at this moment, under one lock, until the exchange refuses one. Where there are none it takes no
-    /// lock. After releasing the lock, the thread wakes the last line that received outputs, which then finds all of them at once.
+    /// lock. After releasing the lock, the thread rings for the last line that received outputs, which then finds all of them at once.
     ///
     /// # Errors
     ///
@@ -176,31 +178,31 @@ impl<N: Name, C: Clock, A: Allocator + Copy> Seat<N, C, A> {
             .offer(rt, &mut self.pass, event)
             .map_err(|fault| over_by(&fault));
         if let Ok(done) = &taken {
-            self.wake_others(done);
+            self.ring_for_others(done);
         }
         taken
     }
 
-    /// Wakes the other lines that received outputs by an event, all but the last one. The events after this one mostly put out to
-    /// that line too, and so the thread wakes it once, after all of them.
-    fn wake_others(&mut self, done: &Receipt)
+    /// Rings for the other lines that received outputs by an event, all but the last one. The events after this one mostly put out to
+    /// that line too, and so the thread rings for it once, after all of them.
+    fn ring_for_others(&mut self, done: &Receipt)
         ensures { self.new.pass ≡ self.old.pass }
     {
         let line = self.pass.line();
         for given in done.given() {
             if *given != line && self.given != Some(*given) {
-                self.wake_last();
+                self.ring_for_last();
                 self.given = Some(*given);
             }
         }
     }
 
-    /// Wakes the thread of the line that received an output last, if there is one to wake.
-    fn wake_last(&mut self)
+    /// Rings for the line that received an output last, if there is one that was not rung for.
+    fn ring_for_last(&mut self)
         ensures { self.new.pass ≡ self.old.pass }
     {
         if let Some(line) = self.given.take() {
-            self.clock.wake(line);
+            self.bell.ring(line);
         }
     }
 
@@ -208,7 +210,7 @@ impl<N: Name, C: Clock, A: Allocator + Copy> Seat<N, C, A> {
     fn tell(&mut self, signals: &Signals, records: u64)
         ensures { self.new.pass ≡ self.old.pass }
     {
-        self.wake_last();
+        self.ring_for_last();
         if signals.records_made(records) {
             self.has_new_records = true;
         }

@@ -14,32 +14,33 @@ use crate::signals::Signals;
 use std::marker::Model;
 use std::mem;
 use std::sync::Wait;
-use xp_links::{Clock, Link, Port};
+use xp_links::{Bell, Clock, Link, Port};
 use xp_lock::LinePass;
 use xp_past::Past;
 use xp_seats::Name;
 
 /// What a line is served with.
 #[derive(Drop)]
-pub struct LineInputs<N: Name, P: Port, C: Clock> {
+pub struct LineInputs<N: Name, P: Port, C: Clock, B: Bell> {
     pub pass: LinePass<N>,
     pub port: P,
     pub clock: C,
+    pub bell: B,
 }
 
 /// A line that a thread serves, with the links that come from its port, one at a time. Contracts see it as the pass with which it
 /// began.
-pub(crate) struct ServedLine<N: Name, P: Port, C: Clock> {
+pub(crate) struct ServedLine<N: Name, P: Port, C: Clock, B: Bell> {
     /// The pass with which it began.
     first: Past<LinePass<N>>,
-    seat: Seat<N, C>,
+    seat: Seat<N, C, B>,
     port: P,
     state: LineState<P::Link>,
     /// Whether a turn is due that waits for the recording thread.
     is_held: bool,
 }
 
-impl<N: Name, P: Port, C: Clock> Drop for ServedLine<N, P, C> {
+impl<N: Name, P: Port, C: Clock, B: Bell> Drop for ServedLine<N, P, C, B> {
     fn drop(self) {
         let ServedLine {
             first: _,
@@ -51,7 +52,7 @@ impl<N: Name, P: Port, C: Clock> Drop for ServedLine<N, P, C> {
     }
 }
 
-impl<N: Name, P: Port, C: Clock> Model for ServedLine<N, P, C> {
+impl<N: Name, P: Port, C: Clock, B: Bell> Model for ServedLine<N, P, C, B> {
     ghost use Rattle.std.specs.declared.alloc.Global.{Global as Alloc};
     ghost use Rattle.xp_lock.specs.Passes.{Pass};
     ghost use Rattle.xp_lines.specs.steps.Serving.{IsLineSo, first_of};
@@ -63,14 +64,19 @@ impl<N: Name, P: Port, C: Clock> Model for ServedLine<N, P, C> {
     ghost invariant = { λ line. IsLineSo N.subs P.Link.pushed P.Link.pulled (first_of line.first.items) line.state line.seat.pass };
 }
 
-impl<N: Name, P: Port, C: Clock> ServedLine<N, P, C> {
+impl<N: Name, P: Port, C: Clock, B: Bell> ServedLine<N, P, C, B> {
     /// The line, which has had no turn.
-    pub(crate) fn new(inputs: LineInputs<N, P, C>) -> ServedLine<N, P, C>
+    pub(crate) fn new(inputs: LineInputs<N, P, C, B>) -> ServedLine<N, P, C, B>
         ensures { result ≡ inputs.pass }
     {
-        let LineInputs { pass, port, clock } = inputs;
+        let LineInputs {
+            pass,
+            port,
+            clock,
+            bell,
+        } = inputs;
         let first = Past::new().and(&pass);
-        let seat = Seat::new(pass, clock);
+        let seat = Seat::new(pass, clock, bell);
         ServedLine {
             first,
             seat,
@@ -90,9 +96,9 @@ impl<N: Name, P: Port, C: Clock> ServedLine<N, P, C> {
         self.is_held
     }
 
-    /// Whether a turn may find something to do. The clock is asked in any case, since that takes what was marked.
+    /// Whether a turn may find something to do. The bell is asked in any case, since that takes what was marked.
     fn is_due(&self) -> bool {
-        self.seat.clock.is_due() && self.is_open()
+        self.seat.bell.is_due() && self.is_open()
     }
 
     /// Whether it has a turn now. A turn that is due is held where the recording thread is behind and the line has new records, until
@@ -103,24 +109,29 @@ impl<N: Name, P: Port, C: Clock> ServedLine<N, P, C> {
         let is_due = self.is_due() || self.is_held;
         self.is_held = is_due && self.seat.waits_for_recorder(signals);
         if self.is_held {
-            self.seat.clock.idle();
+            self.seat.bell.idle();
         }
         is_due && !self.is_held
     }
 
-    /// Has a turn, if it is due and not held. It halts the exchange where the journal is full.
-    pub(crate) fn have_turn<R: Wait>(&mut self, rt: &R, shared: &Shared<'_, N>)
+    /// Has a turn, if it is due and not held. It halts the exchange where the journal is full. Returns whether the line has ended in it.
+    pub(crate) fn have_turn<R: Wait>(&mut self, rt: &R, shared: &Shared<'_, N>) -> bool
         ensures { self.new ≡ self.old }
     {
         if !self.may_go(shared.signals) {
-            return;
+            return false;
         }
-        self.state = match mem::replace(&mut self.state, LineState::Ended(EndReason::Halted)) {
+        match mem::replace(&mut self.state, LineState::Ended(EndReason::Halted)) {
             LineState::Open(session) => {
-                next_state(rt, shared, &mut self.seat, &mut self.port, session)
+                self.seat.bell.begin_turn();
+                self.state = next_state(rt, shared, &mut self.seat, &mut self.port, session);
+                !self.is_open()
             }
-            other => other,
-        };
+            other => {
+                self.state = other;
+                false
+            }
+        }
     }
 
     /// Is asked to stop: it offers the Down of its link, if it has one. Where an allocation fails it stays open.
@@ -201,10 +212,10 @@ impl<N: Name, P: Port, C: Clock> ServedLine<N, P, C> {
 }
 
 /// A turn of an open line.
-fn next_state<N: Name, P: Port, C: Clock, R: Wait>(
+fn next_state<N: Name, P: Port, C: Clock, B: Bell, R: Wait>(
     rt: &R,
     shared: &Shared<'_, N>,
-    seat: &mut Seat<N, C>,
+    seat: &mut Seat<N, C, B>,
     port: &mut P,
     session: Option<Session<P::Link>>,
 ) -> LineState<P::Link>
@@ -220,17 +231,17 @@ fn next_state<N: Name, P: Port, C: Clock, R: Wait>(
             }
             let why = close(rt, shared, seat, why, step.session);
             // A line that has ended keeps its thread from no sleep.
-            seat.clock.idle();
+            seat.bell.idle();
             LineState::Ended(why)
         }
     }
 }
 
 /// Writes what a line in this state has still to write, as far as its link takes it.
-fn write_state<N: Name, L: Link, C: Clock, R: Wait>(
+fn write_state<N: Name, L: Link, C: Clock, B: Bell, R: Wait>(
     rt: &R,
     shared: &Shared<'_, N>,
-    seat: &mut Seat<N, C>,
+    seat: &mut Seat<N, C, B>,
     state: LineState<L>,
 ) -> LineState<L>
     ensures { StaysSo N.subs L.pushed L.pulled state seat.old.pass result seat.new.pass }
@@ -256,10 +267,10 @@ fn why_of<L: Link>(state: LineState<L>) -> EndReason
 }
 
 /// The end of an open line.
-fn end_state<N: Name, L: Link, C: Clock, R: Wait>(
+fn end_state<N: Name, L: Link, C: Clock, B: Bell, R: Wait>(
     rt: &R,
     shared: &Shared<'_, N>,
-    seat: &mut Seat<N, C>,
+    seat: &mut Seat<N, C, B>,
     why: EndReason,
     session: Option<Session<L>>,
 ) -> LineState<L>

@@ -24,16 +24,16 @@ use std::thread;
 use std::thread::{Promise, PromisedHandle, Scope, Threads};
 use std::vec::IntoIter;
 use xp_limits::Limits;
-use xp_links::{Clock, Poller, Port};
+use xp_links::{Bell, Clock, Poller, Port};
 use xp_lock::Exchange;
 use xp_seats::Name;
 use xp_sink::RecordSink;
 
 /// All lines of an exchange, and what the threads that serve them wait on.
 #[derive(Drop)]
-pub struct LinesToServe<N: Name, P: Port, C: Clock, T: Poller> {
+pub struct LinesToServe<N: Name, P: Port, C: Clock, B: Bell, T: Poller> {
     /// In order.
-    pub lines: Vec<LineInputs<N, P, C>>,
+    pub lines: Vec<LineInputs<N, P, C, B>>,
     /// What each thread waits on, which serves as many of the next lines as its poller says.
     pub pollers: Vec<T>,
 }
@@ -49,28 +49,29 @@ pub struct LinesServed<N: Name, S: RecordSink> {
 
 /// An allocation failed, and no line was served. The lines, the recorder and the sink come back.
 #[derive(Drop)]
-pub struct ServeFault<N: Name, P: Port, C: Clock, S: RecordSink> {
-    pub lines: Vec<LineInputs<N, P, C>>,
+pub struct ServeFault<N: Name, P: Port, C: Clock, B: Bell, S: RecordSink> {
+    pub lines: Vec<LineInputs<N, P, C, B>>,
     pub path: RecordPath<N, S>,
 }
 
 /// The promise that a thread returns the lines that it was given.
 #[derive(Drop)]
-struct OfLines<N: Name, P: Port, C: Clock> {
+struct OfLines<N: Name, P: Port, C: Clock, B: Bell> {
     /// The lines that the thread is given.
-    first: Snapshot<Vec<ServedLine<N, P, C>>>,
+    first: Snapshot<Vec<ServedLine<N, P, C, B>>>,
 }
 
-impl<N: Name, P: Port, C: Clock> Promise<Vec<ServedLine<N, P, C>>> for OfLines<N, P, C> {
+impl<N: Name, P: Port, C: Clock, B: Bell> Promise<Vec<ServedLine<N, P, C, B>>>
+    for OfLines<N, P, C, B> {
     ghost use Rattle.std.specs.Prelude.{◌≡◌};
 
     ghost kept_by = { λ promise lines. lines.items ≡ promise.first.value.items };
 }
 
 /// The lines of a thread that runs, or those of a thread that could not be started.
-type Begun<N, P, C> = Result<
-    PromisedHandle<Vec<ServedLine<N, P, C>>, OfLines<N, P, C>>,
-    Vec<ServedLine<N, P, C>>,
+type Begun<N, P, C, B> = Result<
+    PromisedHandle<Vec<ServedLine<N, P, C, B>>, OfLines<N, P, C, B>>,
+    Vec<ServedLine<N, P, C, B>>,
 >;
 
 /// Serves all lines until all have ended, or until these limits: the most turns of each line, and the number of charging records at
@@ -90,6 +91,7 @@ pub fn serve_all<
     N: Name + Send + Sync,
     P: Port + Send,
     C: Clock + Send,
+    B: Bell + Send,
     T: Poller + Send,
     S: RecordSink,
     R: Threads + Wait + Sync,
@@ -97,10 +99,10 @@ pub fn serve_all<
     rt: &R,
     alloc: Global,
     exchange: &Exchange<N>,
-    lines: LinesToServe<N, P, C, T>,
+    lines: LinesToServe<N, P, C, B, T>,
     path: RecordPath<N, S>,
     limits: Limits,
-) -> Result<LinesServed<N, S>, ServeFault<N, P, C, S>>
+) -> Result<LinesServed<N, S>, ServeFault<N, P, C, B, S>>
     requires lines { S.lines path.sink ≡ line_count N.subs }
     requires tables { S.tables path.sink ≡ N.subs }
     requires received { S.received path.sink ≡ path.recorder.received }
@@ -117,7 +119,7 @@ pub fn serve_all<
     thread::scope(
         thread::scope_env(),
         rt,
-        |scope| -> Result<LinesServed<N, S>, ServeFault<N, P, C, S>>
+        |scope| -> Result<LinesServed<N, S>, ServeFault<N, P, C, B, S>>
             requires lines { S.lines path.sink ≡ line_count N.subs }
             requires tables { S.tables path.sink ≡ N.subs }
             requires received { S.received path.sink ≡ path.recorder.received }
@@ -138,6 +140,7 @@ fn serve_in<
     N: Name + Send + Sync + 's,
     P: Port + Send + 's,
     C: Clock + Send + 's,
+    B: Bell + Send + 's,
     T: Poller + Send + 's,
     S: RecordSink,
     R: Threads + Wait + Sync + 's,
@@ -145,9 +148,9 @@ fn serve_in<
     rt: &'s R,
     scope: &Scope<'s, E>,
     shared: &'s Shared<'s, N>,
-    lines: LinesToServe<N, P, C, T>,
+    lines: LinesToServe<N, P, C, B, T>,
     path: RecordPath<N, S>,
-) -> Result<LinesServed<N, S>, ServeFault<N, P, C, S>>
+) -> Result<LinesServed<N, S>, ServeFault<N, P, C, B, S>>
     requires lines { S.lines path.sink ≡ line_count N.subs }
     requires tables { S.tables path.sink ≡ N.subs }
     requires received { S.received path.sink ≡ path.recorder.received }
@@ -181,25 +184,25 @@ fn serve_in<
 
 /// Room for what serving makes of its lines.
 #[derive(Drop)]
-struct Rooms<N: Name, P: Port, C: Clock, T: Poller> {
-    served: Vec<ServedLine<N, P, C>>,
-    threads: ThreadsToBegin<N, P, C, T>,
+struct Rooms<N: Name, P: Port, C: Clock, B: Bell, T: Poller> {
+    served: Vec<ServedLine<N, P, C, B>>,
+    threads: ThreadsToBegin<N, P, C, B, T>,
     ends: Vec<LineEnd<N>>,
 }
 
 /// The threads that are to begin, and room for those that have begun.
 #[derive(Drop)]
-struct ThreadsToBegin<N: Name, P: Port, C: Clock, T: Poller> {
-    groups: Vec<ThreadGroup<N, P, C, T>>,
-    begun: Vec<Begun<N, P, C>>,
+struct ThreadsToBegin<N: Name, P: Port, C: Clock, B: Bell, T: Poller> {
+    groups: Vec<ThreadGroup<N, P, C, B, T>>,
+    begun: Vec<Begun<N, P, C, B>>,
 }
 
 /// Room for so many lines, and for the threads of these pollers.
-fn rooms_for<N: Name, P: Port, C: Clock, T: Poller>(
+fn rooms_for<N: Name, P: Port, C: Clock, B: Bell, T: Poller>(
     alloc: Global,
     lines: usize,
     pollers: Vec<T>,
-) -> Result<Rooms<N, P, C, T>, AllocError>
+) -> Result<Rooms<N, P, C, B, T>, AllocError>
     ensures served { IfOk result (λ rooms. (rooms.served.items ≡ []) × (lines ≤ vec_capacity rooms.served)) }
     ensures begun { IfOk result (λ rooms. (rooms.threads.begun.items ≡ []) × (vec_len rooms.threads.groups ≤ vec_capacity rooms.threads.begun)) }
     ensures ends { IfOk result (λ rooms. (rooms.ends.items ≡ []) × (lines ≤ vec_capacity rooms.ends)) }
@@ -220,15 +223,16 @@ fn begin_all<
     N: Name + Send + Sync + 's,
     P: Port + Send + 's,
     C: Clock + Send + 's,
+    B: Bell + Send + 's,
     T: Poller + Send + 's,
     R: Threads + Wait + Sync + 's,
 >(
     rt: &'s R,
     scope: &Scope<'s, E>,
     shared: &'s Shared<'s, N>,
-    left: &mut IntoIter<ServedLine<N, P, C>, Global>,
-    threads: ThreadsToBegin<N, P, C, T>,
-) -> Vec<Begun<N, P, C>>
+    left: &mut IntoIter<ServedLine<N, P, C, B>, Global>,
+    threads: ThreadsToBegin<N, P, C, B, T>,
+) -> Vec<Begun<N, P, C, B>>
     requires room { vec_len threads.begun + vec_len threads.groups ≤ vec_capacity threads.begun }
     requires none { threads.begun.items ≡ [] }
     requires many { length (into_iter_items left.old) ≡ into_iter_len left.old }
@@ -252,21 +256,22 @@ fn begin_one<
     N: Name + Send + Sync + 's,
     P: Port + Send + 's,
     C: Clock + Send + 's,
+    B: Bell + Send + 's,
     T: Poller + Send + 's,
     R: Threads + Wait + Sync + 's,
 >(
     rt: &'s R,
     scope: &Scope<'s, E>,
     shared: &'s Shared<'s, N>,
-    lines: Vec<ServedLine<N, P, C>>,
+    lines: Vec<ServedLine<N, P, C, B>>,
     poller: T,
-) -> Begun<N, P, C>
+) -> Begun<N, P, C, B>
     ensures { lines_of result ≡ lines.items }
 {
-    let promise = OfLines::<N, P, C> {
+    let promise = OfLines::<N, P, C, B> {
         first: Snapshot::of(&lines),
     };
-    let run = move || -> Vec<ServedLine<N, P, C>>
+    let run = move || -> Vec<ServedLine<N, P, C, B>>
         ensures { result.items ≡ lines.items }
     { serve_lines(rt, shared, lines, poller) };
     match scope.spawn_with(promise, run) {
@@ -279,10 +284,10 @@ fn begin_one<
 }
 
 /// Waits for the end of each thread. A line that had no thread has ended as well.
-fn end_all<N: Name, P: Port, C: Clock, R: Threads>(
+fn end_all<N: Name, P: Port, C: Clock, B: Bell, R: Threads>(
     rt: &R,
-    begun: Vec<Begun<N, P, C>>,
-    left: IntoIter<ServedLine<N, P, C>, Global>,
+    begun: Vec<Begun<N, P, C, B>>,
+    left: IntoIter<ServedLine<N, P, C, B>, Global>,
     ends: Vec<LineEnd<N>>,
 ) -> Vec<LineEnd<N>>
     requires room { length (begun_lines begun.items ++ into_iter_items left) ≤ vec_capacity ends }
@@ -298,9 +303,9 @@ fn end_all<N: Name, P: Port, C: Clock, R: Threads>(
 }
 
 /// Waits for the end of a thread, and adds how its lines ended.
-fn end_one<N: Name, P: Port, C: Clock, R: Threads>(
+fn end_one<N: Name, P: Port, C: Clock, B: Bell, R: Threads>(
     rt: &R,
-    begun: Begun<N, P, C>,
+    begun: Begun<N, P, C, B>,
     ends: Vec<LineEnd<N>>,
 ) -> Vec<LineEnd<N>>
     requires room { vec_len ends + length (lines_of begun) ≤ vec_capacity ends }

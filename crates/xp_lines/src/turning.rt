@@ -13,7 +13,7 @@ use crate::shared::Shared;
 use crate::waiting::Waiting;
 use std::alloc::Allocator;
 use std::sync::Wait;
-use xp_links::{Clock, Link};
+use xp_links::{Bell, Clock, Link};
 use xp_seats::Name;
 
 /// How a turn leaves its line.
@@ -51,10 +51,10 @@ pub struct Turned {
 ///
 /// Where the link goes and no allocation failed, each packet that came was offered. Octets behind a bad header are lost. Where a Down
 /// from an earlier turn is owed, it offers that alone. A turn that read nothing and emptied the outbox lets time pass.
-pub fn turn<N: Name, L: Link, C: Clock, A: Allocator + Copy, R: Wait>(
+pub fn turn<N: Name, L: Link, C: Clock, B: Bell, A: Allocator + Copy, R: Wait>(
     rt: &R,
     shared: &Shared<'_, N, A>,
-    seat: &mut Seat<N, C, A>,
+    seat: &mut Seat<N, C, B, A>,
     session: &mut Session<L, A>,
 ) -> Turned
     ensures turn { (now : ℕ) × ((told : C) × C.tells seat.old.clock now told) × IsTurn (modulus_of N.subs seat.old.pass.line) now session.old.connection seat.old.pass (seen_on L.pushed L.pulled session.old).1 result.after result.wanting seat.new.pass (seen_on L.pushed L.pulled session.new).1 }
@@ -72,10 +72,10 @@ pub fn turn<N: Name, L: Link, C: Clock, A: Allocator + Copy, R: Wait>(
 }
 
 /// Ends a turn by what it came to: the link stays, or its Down is offered, or it is the line's last turn.
-fn finish<N: Name, C: Clock, A: Allocator + Copy, R: Wait>(
+fn finish<N: Name, C: Clock, B: Bell, A: Allocator + Copy, R: Wait>(
     rt: &R,
     shared: &Shared<'_, N, A>,
-    seat: &mut Seat<N, C, A>,
+    seat: &mut Seat<N, C, B, A>,
     now: u64,
     owes_down: &mut bool,
     worked: Result<bool, Over>,
@@ -86,7 +86,7 @@ fn finish<N: Name, C: Clock, A: Allocator + Copy, R: Wait>(
     match worked {
         Ok(moved) => {
             if !moved {
-                seat.clock.idle();
+                seat.bell.idle();
             }
             ended(TurnOutcome::Linked)
         }
@@ -119,10 +119,10 @@ fn for_memory(after: TurnOutcome) -> Turned
 }
 
 /// Offers that the link went, at this moment. If an allocation fails, that is owed.
-fn go_down<N: Name, C: Clock, A: Allocator + Copy, R: Wait>(
+fn go_down<N: Name, C: Clock, B: Bell, A: Allocator + Copy, R: Wait>(
     rt: &R,
     shared: &Shared<'_, N, A>,
-    seat: &mut Seat<N, C, A>,
+    seat: &mut Seat<N, C, B, A>,
     now: u64,
     owes_down: &mut bool,
 ) -> Turned
@@ -140,10 +140,10 @@ fn go_down<N: Name, C: Clock, A: Allocator + Copy, R: Wait>(
 }
 
 /// A turn without its Down: it writes, reads, and lets a call expire. Returns whether the line had anything to do.
-fn write_and_read<N: Name, L: Link, C: Clock, A: Allocator + Copy, R: Wait>(
+fn write_and_read<N: Name, L: Link, C: Clock, B: Bell, A: Allocator + Copy, R: Wait>(
     rt: &R,
     shared: &Shared<'_, N, A>,
-    seat: &mut Seat<N, C, A>,
+    seat: &mut Seat<N, C, B, A>,
     session: &mut Session<L, A>,
     now: u64,
 ) -> Result<bool, Over>
@@ -165,10 +165,10 @@ fn write_and_read<N: Name, L: Link, C: Clock, A: Allocator + Copy, R: Wait>(
 }
 
 /// Reads, and then lets an incoming call expire that was not answered in time. Returns whether the line had anything to do.
-fn read_and_expire<N: Name, L: Link, C: Clock, A: Allocator + Copy, R: Wait>(
+fn read_and_expire<N: Name, L: Link, C: Clock, B: Bell, A: Allocator + Copy, R: Wait>(
     rt: &R,
     shared: &Shared<'_, N, A>,
-    seat: &mut Seat<N, C, A>,
+    seat: &mut Seat<N, C, B, A>,
     session: &mut Session<L, A>,
     now: u64,
 ) -> Result<bool, Over>

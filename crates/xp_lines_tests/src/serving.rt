@@ -36,7 +36,7 @@ line = [{ name = "m1", port = 19986, modulus = 128 }]
 "#;
 
 /// A line that is served.
-type Line<N> = LineInputs<N, Part, Part>;
+type Line<N> = LineInputs<N, Part, Part, Part>;
 
 /// The subscriptions, with a journal of nine entries where that is asked for.
 fn subs(alloc: Global, board: &Board) -> Result<Subs, Fail> {
@@ -50,8 +50,12 @@ fn subs(alloc: Global, board: &Board) -> Result<Subs, Fail> {
 
 fn line<N: Name>(pass: LinePass<N>, board: &Arc<Board>) -> Result<Line<N>, AllocError> {
     let line = pass.line();
-    let (port, clock) = (Part::new(board, line, 0)?, Part::new(board, line, 0)?);
-    Ok(LineInputs { pass, port, clock })
+    Ok(LineInputs {
+        pass,
+        port: Part::new(board, line, 0)?,
+        clock: Part::new(board, line, 0)?,
+        bell: Part::new(board, line, 0)?,
+    })
 }
 
 fn lines<N: Name>(

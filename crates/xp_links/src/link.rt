@@ -1,4 +1,4 @@
-//! What a line is served with: links and the port that they come from, a clock; and what its thread waits on.
+//! What a line is served with: links and the port that they come from, a clock and a bell; and what its thread waits on.
 
 ghost use Rattle.std.specs.Prelude.{◌≡◌, ◌≤◌, length, take};
 ghost use Rattle.std.specs.Io.KnownBytes.{Appends};
@@ -81,20 +81,23 @@ pub trait Clock: Drop {
     /// The time in seconds since any fixed moment. The line's events have it as their moment.
     fn now(&mut self) -> u64
         ensures { tells self.old result self.new };
+}
 
-    /// Notes that the line has nothing to do until octets come from its link or another line's thread wakes it. It does not wait:
-    /// the thread may have other lines.
-    fn idle(&mut self);
-
+/// The bell of a line: what its thread and those of other lines tell each other of its work. No call of it waits.
+pub trait Bell: Drop {
     /// Whether a turn of the line may find something to do. The thread asks before each turn, and leaves the turn out where the
     /// answer is no.
-    fn is_due(&self) -> bool {
-        true
-    }
+    fn is_due(&self) -> bool;
 
-    /// Wakes the thread of another line, which may be asleep, since the exchange put something out to that line. A clock that lets
-    /// no time pass has no thread to wake. It does not wait, since a thread may call it while it holds the exchange's lock.
-    fn wake(&mut self, _line: LineNo) {}
+    /// Notes that the line has a turn, and is due again after it.
+    fn begin_turn(&self);
+
+    /// Notes that the line is not due until octets come from its link, or another line's thread rings for it.
+    fn idle(&self);
+
+    /// Makes another line due, since the exchange put something out to it, and wakes its thread if that is asleep. A thread may
+    /// call it while it holds the exchange's lock.
+    fn ring(&self, line: LineNo);
 }
 
 /// For how long a thread may wait for its lines.

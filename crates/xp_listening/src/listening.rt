@@ -61,17 +61,28 @@ fn open_door<R: Net>(
     ensures same { sockets.new ≡ sockets.old }
     ensures wanting { IfErr result (IsWanting subs.now) }
 {
-    if !subs.has_routers() {
-        // No port is asked for: descriptors are wanting, or memory.
-        return sockets
-            .open_door(rt, alloc, None)
-            .map_err(|_| ServeFailure::Memory);
-    }
-    let at = SocketAddr::new(host, subs.xot_port());
-    match sockets.open_door(rt, alloc, Some(at)) {
+    match sockets.open_door(rt, alloc, address_of_door(subs, host)) {
         Ok(()) => Ok(()),
-        Err(ListenFault::Port) => Err(ServeFailure::XotPort),
-        Err(ListenFault::Memory) => Err(ServeFailure::Memory),
+        Err(fault) => Err(failure_of_door(subs, fault)),
+    }
+}
+
+/// Where the routers of lines connect to, if a line is behind one.
+pub(crate) fn address_of_door(subs: &Subs, host: IpAddr) -> Option<SocketAddr> {
+    if subs.has_routers() {
+        Some(SocketAddr::new(host, subs.xot_port()))
+    } else {
+        None
+    }
+}
+
+/// What is told where the door can't be made. Where no line is behind a router, no port was asked for: descriptors are wanting, or memory.
+pub(crate) fn failure_of_door(subs: &Subs, fault: ListenFault) -> ServeFailure
+    ensures { IsWanting subs.now result }
+{
+    match fault {
+        ListenFault::Port if subs.has_routers() => ServeFailure::XotPort,
+        ListenFault::Port | ListenFault::Memory => ServeFailure::Memory,
     }
 }
 
@@ -165,7 +176,10 @@ fn listen<R: Net>(
         Access::Port(port) => listen_on(rt, subs, host, line, *port, sockets),
         Access::Router(router) => add_behind(rt, subs, line, router, sockets),
         // No port is asked for: descriptors are wanting, or memory.
-        Access::Spare => sockets.add_spare(rt).map_err(|_| ServeFailure::Memory),
+        Access::Spare => match sockets.add_spare(rt) {
+            Ok(()) => Ok(()),
+            Err(_) => Err(ServeFailure::Memory),
+        },
     }
 }
 

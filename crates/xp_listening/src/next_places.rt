@@ -13,7 +13,7 @@ ghost use Rattle.xp_tcp.specs.NextPlaces.{NextPlace};
 ghost use Rattle.xp_tcp.specs.declared.source.Source.{Source};
 
 use crate::failure::ServeFailure;
-use crate::listening::{admission_of, router_of};
+use crate::listening::{address_of_door, admission_of, failure_of_door, router_of};
 use crate::preparation::check_serving;
 use std::alloc::Global;
 use std::net::{IpAddr, Net, SocketAddr};
@@ -63,17 +63,9 @@ fn make_ready<R: Net + Wait>(
     ensures same { ports.new ≡ ports.old }
     ensures wanting { IfErr result (IsWanting next.now) }
 {
-    if !next.has_routers() {
-        // No port is asked for: memory is wanting.
-        return ports
-            .make_ready(rt, alloc, None)
-            .map_err(|_| ServeFailure::Memory);
-    }
-    let at = SocketAddr::new(host, next.xot_port());
-    match ports.make_ready(rt, alloc, Some(at)) {
+    match ports.make_ready(rt, alloc, address_of_door(next, host)) {
         Ok(()) => Ok(()),
-        Err(ListenFault::Port) => Err(ServeFailure::XotPort),
-        Err(ListenFault::Memory) => Err(ServeFailure::Memory),
+        Err(fault) => Err(failure_of_door(next, fault)),
     }
 }
 

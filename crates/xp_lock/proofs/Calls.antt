@@ -1,6 +1,5 @@
 -- The calls between some lines: after an event each live call has both its lines among the three, or none.
-use Rattle.std.proofs.Common.{◌≡◌, ◌⊎◌, ℕ, eqb, Option, Some, None, List, length, refl, ap, sym, subst, ◌∙◌, inl, inr}
-use Rattle.std.specs.Option.{unwrap_or}
+use Rattle.std.proofs.Common.{arith, ◌≡◌, ℕ, eqb, Some, List, length, refl, ap, sym, subst, ◌∙◌, inl, inr}
 use Rattle.std.specs.Prelude.{option_map}
 use Rattle.std.proofs.lemmas.Bool.{cond_both}
 use Rattle.xp_subs.specs.Tables.{Tables}
@@ -48,19 +47,10 @@ module _ {A : Type 0} (tables : Tables) (before : List (Entry A)) (world : World
 
     change_closed : (change : Change) (w : World) → Comes change → AreClosed lines w → AreClosed lines (changed change w)
     change_closed (Begins l identifier called dialled setup requested) w from all number call live = elim (new_or_old w.calls w.next _ number call live) [
-      | inl new ↦
-          let both = adds called (ap taken_by from.took) in
-          let here : (y : ℕ) → (y ≡ l) ⊎ (y ≡ called) → Among lines y = λ y end. elim end [
-            | inl is ↦ subst (Among lines) (sym (is ∙ from.asked.line_is)) both.0
-            | inr is ↦ subst (Among lines) (sym is) both.1
-          ] in
-          subst (HasBoth lines) new.1 (λ x y at_x at_y there. here y at_y)
+      | inl new ↦ grind arith
       | inr old ↦ all number call old.1
     ]
-    change_closed (Connects n c agreement) w from all number call live = elim (new_or_old w.calls n _ number call live) [
-      | inl new ↦ subst (HasBoth lines) new.1 (closed n c (shown_on world line (n, c) from.on).1)
-      | inr old ↦ all number call old.1
-    ]
+    change_closed (Connects n c agreement) w from all number call live = grind (arith, new_or_old, shown_on)
     change_closed (Ends n c l way cause diagnostic) w from all number call live = all number call (was_there w.calls n number call live).1
     change_closed change w from all number call live = all number call live
 
@@ -85,19 +75,8 @@ module _ {A : Type 0} (tables : Tables) (before : List (Entry A)) (world : World
   -- one of the three that is in a call is in that of the line
   line_shows : (number : ℕ) (x : ℕ) → call_of (state_at world x) ≡ Some number → Among three x → call_of (state_at world line) ≡ Some number
   line_shows number x in_it (inl is) = ap (λ l. call_of (state_at world l)) (sym is) ∙ in_it
-  line_shows number x in_it (inr (inl is)) = by_far (call_on world line) refl is where
-    by_far : (found : Option (ℕ × Call)) → call_on world line ≡ found → x ≡ far_from line found → call_of (state_at world line) ≡ Some number
-    by_far None on is = ap (λ l. call_of (state_at world l)) (sym is) ∙ in_it
-    by_far (Some found) on is =
-        let shown = shown_on world line found on in
-        let same = same_number world x (far_end found.1 line) found.0 number is in_it (shows found.0 found.1 shown.1 (far_end found.1 line) (far_is_end found.1 line)) in
-        shown.0 ∙ ap Some same
-  line_shows number x in_it (inr (inr (inl is))) = by_taken (taken_by entry.outcome) refl is where
-    by_taken : (taken : Option ℕ) → taken_by entry.outcome ≡ taken → x ≡ unwrap_or taken line → call_of (state_at world line) ≡ Some number
-    by_taken None took is = ap (λ l. call_of (state_at world l)) (sym is) ∙ in_it
-    by_taken (Some called) took is =
-        let out : call_of (state_at world x) ≡ None = ap call_of ((goes_here tables before world run entry next step).ready x (took ∙ ap Some (sym is))) in
-        absurd (cc)
+  line_shows number x in_it (inr (inl is)) = grind (arith, far_from, far_is_end, same_number, shown_on, shows)
+  line_shows number x in_it (inr (inr (inl is))) = grind (arith, goes_here)
   line_shows number x in_it (inr (inr (inr no_more))) = absurd no_more
 
   three_closed : AreClosed three world

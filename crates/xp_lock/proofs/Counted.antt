@@ -1,6 +1,6 @@
 -- What lines handed in together.
-use Rattle.std.proofs.Common.{◌≡◌, ◌≢◌, ℕ, suc, zero, ◌+◌, ◌<◌, ◌≤◌, Bool, true, false, true≢false, cond, not, List, [], ◌∷◌, ◌++◌, length, refl, ap, sym, ◌∙◌, inl, inr, arith, eq-eqb}
-use Rattle.std.specs.Prelude.{◌&&◌, ◌||◌}
+use Rattle.std.proofs.Common.{◌≡◌, ◌≢◌, ℕ, suc, zero, ◌+◌, ◌<◌, ◌≤◌, Bool, true, false, true≢false, List, [], ◌∷◌, ◌++◌, length, refl, ap, sym, ◌∙◌, inl, inr, arith, eq-eqb}
+use Rattle.std.specs.Prelude.{◌||◌}
 use Rattle.std.proofs.lemmas.Bool.{cases_eq, ne_eqb}
 use Rattle.std.proofs.lemmas.List.Elements.{All-head, All-tail}
 use Rattle.xp_subs.specs.Tables.{Tables, line_count}
@@ -52,17 +52,10 @@ module _ {A : Type 0} where
 
     -- to another line it adds nothing
     handed_elsewhere : (line : ℕ) → entry.event.line ≢ line → handed line (entry ∷ entries) ≡ handed line entries
-    handed_elsewhere line other =
-        ap (λ b. cond (b && not (is_raised entry.event.what)) (entry ∷ handed line entries) (handed line entries)) (ne_eqb entry.event.line line other)
+    handed_elsewhere line other = grind (arith, ne_eqb)
 
     handed_here : (line : ℕ) → entry.event.line ≡ line → length (handed line (entry ∷ entries)) ≡ counts (is_raised entry.event.what) + length (handed line entries)
-    handed_here line same =
-        ap (λ b. length (cond (b && not (is_raised entry.event.what)) (entry ∷ handed line entries) (handed line entries))) (eq-eqb entry.event.line line same)
-        ∙ by (is_raised entry.event.what)
-      where
-        by : (b : Bool) → length (cond (not b) (entry ∷ handed line entries) (handed line entries)) ≡ counts b + length (handed line entries)
-        by true = omega arith
-        by false = omega arith
+    handed_here line same = grind (arith, eq-eqb)
 
     below : (lines : ℕ) → lines ≤ entry.event.line → handed_together lines (entry ∷ entries) ≡ handed_together lines entries
     below zero few = refl
@@ -74,10 +67,7 @@ module _ {A : Type 0} where
     within : (lines : ℕ) → entry.event.line < lines → handed_together lines (entry ∷ entries) ≡ counts (is_raised entry.event.what) + handed_together lines entries
     within zero few = absurd (omega (arith, few))
     within (suc lines) few = elim (cases_eq entry.event.line lines) [
-      | inl same ↦
-          let rest = below lines (omega (arith, same)) in
-          let here = handed_here lines same in
-          omega (arith, rest, here)
+      | inl same ↦ grind (arith, below, handed_here)
       | inr other ↦
           let rest = within lines (omega (arith, few, other)) in
           let here = ap length (handed_elsewhere lines other) in
@@ -85,11 +75,7 @@ module _ {A : Type 0} where
     ]
 
     one_more : length (all_handed (entry ∷ entries)) ≡ counts (is_raised entry.event.what) + length (all_handed entries)
-    one_more = by (is_raised entry.event.what)
-      where
-        by : (b : Bool) → length (cond (not b) (entry ∷ all_handed entries) (all_handed entries)) ≡ counts b + length (all_handed entries)
-        by true = omega arith
-        by false = omega arith
+    one_more = grind arith
 
     -- ---- by the passes of their lines
 
@@ -107,10 +93,7 @@ module _ {A : Type 0} where
         → by_passes passes (entry ∷ entries) ≡ counts (is_raised entry.event.what) + by_passes passes entries
     to_one [] there once = absurd (true≢false (sym there))
     to_one (pass ∷ passes) there once = elim (cases_eq pass.line entry.event.line) [
-      | inl same ↦
-          let rest = to_others passes (ap (λ l. has_line l passes) (sym same) ∙ once.0) in
-          let here = handed_here pass.line (sym same) in
-          omega (arith, rest, here)
+      | inl same ↦ grind (arith, handed_here, to_others)
       | inr other ↦
           let rest = to_one passes (ap (λ b. b || has_line entry.event.line passes) (sym (ne_eqb pass.line entry.event.line other)) ∙ there) once.1 in
           let here = ap length (handed_elsewhere pass.line (λ same. other (sym same))) in
@@ -151,5 +134,4 @@ module _ {A : Type 0} where
   -- each line's entries are those of its one pass
   pub together : (tables : Tables) (history : List (Entry A)) (world : World) (passes : List (Pass A)) → Run tables history world
       → HasAll (line_count tables) passes → NoneTwice passes → PassesMatch history passes → length (all_handed history) ≡ own_entries_together passes
-  together tables history world passes run all once told =
-      shared (line_count tables) passes all once history (each_in tables history world run) ∙ by_theirs history passes told
+  together tables history world passes run all once told = grind (arith, by_theirs, each_in, shared)

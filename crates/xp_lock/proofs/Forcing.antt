@@ -117,12 +117,7 @@ module _ {A : Type 0} (old : Locked A) (event : Event A) where
     -- a line that is due is one of those that were given something, and is short of places
     short_is : (places : ℕ → ℕ) → ((line : ℕ) → known_before entries after line ≤ places line) → (line : ℕ) → IsDue (world_of now) places entries line
         → Among lines line × (is_short now after line ≡ true)
-    short_is places more line due =
-        let left = room_left line due.in_service in
-        let short : (outbox_at after line).free < 24 = let few = due.short in let least = more line in omega (arith, few, least) in (
-          among_is lines line ((loop.given.each line).1 due.given),
-          short_from now after line (box_there after line (omega (arith, left, few_stalls))) short due.in_service,
-        )
+    short_is places more line due = grind (arith, among_is, box_there, few, few_stalls, room_left, short_from)
 
     -- ---- none is due any more
 
@@ -134,10 +129,7 @@ module _ {A : Type 0} (old : Locked A) (event : Event A) where
           none_passes (is_short now after) lines none line short.0 short.1
 
       may_be : MayBe (world_of now) (known_before entries between) (known_before entries after)
-      may_be = record {
-        more = λ line. let more = (search.alike.each line).free in omega (arith, more);
-        same = λ line off. ap (λ b. b.free + length (put_out_to line entries)) (search.still line off);
-      }
+      may_be = grind arith
 
       led : world_of now ≡ world_after old.subs (old.history ++ entries)
       led = ap (λ t. world_after t now.history) loop.subs ∙ ap (world_after old.subs) loop.history
@@ -173,32 +165,10 @@ module _ {A : Type 0} (old : Locked A) (event : Event A) where
 
       -- a line in service has its places
       places_kept : (line : ℕ) → is_off (state_at (world_of now) line) ≡ false → PLACES_KEPT ≤ (outbox_at after line).free
-      places_kept line on =
-          let had = loop.had line on in
-          let known = (out_now line).known in
-          elim (cases_lt (outbox_at after line).free 24) [
-            | inl short ↦ elim (cases_lt 0 (length (put_out_to line entries))) [
-              | inl some ↦ absurd (quiet line (record { in_service = on; given = some; short = omega (arith, short) }))
-              | inr none ↦ omega (arith, had, known, none)
-            ]
-            | inr enough ↦ enough
-          ]
+      places_kept line on = grind (arith, cases_lt, out_now, quiet)
 
       pub kept : OutboxesMatch now.subs now.history after
-      kept = record {
-        count = search.alike.count ∙ loop.count ∙ can.kept.count ∙ ap line_count (sym loop.subs);
-        capacities = λ line within. (out_now line).capacity ∙ can.kept.capacities line (subst (λ t. line < line_count t) loop.subs within);
-        put = λ line within.
-            let same = search.alike.count ∙ loop.count in
-            (out_now line).put ∙ ap (λ xs. xs ++ put_out_to line entries) (can.kept.put line (omega (arith, within, same)))
-            ∙ sym (flat_map-append (λ (e : Entry A). to_line line e.outputs) old.history entries) ∙ ap (put_out_to line) (sym loop.history);
-        places = places_kept;
-        few =
-            let places = can.places in
-            let long = ap length loop.history in
-            let same = ap (λ t. t.journal) loop.subs in
-            omega (arith, places, few_stalls, long, same, length-append old.history entries);
-      }
+      kept = grind (arith, few, few_stalls, flat_map-append, length-append, out_now, places_kept)
 
     -- ---- one more is stalled
 
@@ -225,16 +195,10 @@ module _ {A : Type 0} (old : Locked A) (event : Event A) where
       is_prepared = let all = loop.enough in let used = loop.used in omega (arith, all, used, at_most_two)
 
       pub has_place : length now.history < now.subs.journal
-      has_place =
-          let places = can.places in
-          let long = ap length loop.history in
-          let same = ap (λ t. t.journal) loop.subs in
-          omega (arith, places, at_most_two, long, same, length-append old.history entries)
+      has_place = grind (arith, at_most_two, length-append)
 
       pub is_line : line < line_count now.subs
-      is_line =
-          let many = search.alike.count ∙ loop.count ∙ can.kept.count ∙ ap line_count (sym loop.subs) in
-          omega (arith, parts.0, many)
+      is_line = grind (arith, kept, parts)
 
       module _ (run : Run now.subs now.history (world_of now)) (next : Exchange A) (stall : Entry A) (advances : Advances now (stall_of line event.moment) next stall) where
         here : stall.event.line ≡ line
@@ -289,10 +253,7 @@ module _ {A : Type 0} (old : Locked A) (event : Event A) where
 
           module _ (places : ℕ → ℕ) (may : MayBe (world_of next) (known_before (entries ++ stall ∷ []) last) places) where
             may_before : MayBe (world_of now) (known_before entries between) places
-            may_before = record {
-              more = λ l. let more = (search.alike.each l).free in let later = may.more l in omega (arith, more, later, same_known l);
-              same = λ l off. may.same l (stays_out l off) ∙ same_known l ∙ ap (λ b. b.free + length (put_out_to l entries)) (search.still l off);
-            }
+            may_before = grind (arith, same_known, stays_out)
 
             lowest_due : IsLowestDue (world_of now) places entries line
             lowest_due = record {
@@ -304,9 +265,7 @@ module _ {A : Type 0} (old : Locked A) (event : Event A) where
             }
 
           step_old : Step old.subs (old.history ++ entries) (world_of now) stall (world_of next)
-          step_old =
-              subst (λ xs. Step old.subs xs (world_of now) stall (world_of next)) loop.history
-              (subst (λ t. Step t now.history (world_of now) stall (world_of next)) loop.subs advances.step)
+          step_old = grind arith
 
           pub goes_on : (more : List ℕ) → more ≡ with_lines lines stall.outputs → Entering next last number more prepared
           goes_on more is = record {

@@ -1,5 +1,5 @@
 -- What a take shows a pass.
-use Rattle.std.proofs.Common.{◌≡◌, ◌≢◌, ℕ, true, false, true≢false, cond, eqb, not, List, [], ◌∷◌, ◌++◌, sym, refl, ap, ◌∙◌, subst, eq-eqb}
+use Rattle.std.proofs.Common.{arith, ◌≡◌, ◌≢◌, ℕ, true, false, true≢false, cond, eqb, not, List, [], ◌∷◌, ◌++◌, sym, refl, ap, ◌∙◌, subst, eq-eqb}
 use Rattle.std.proofs.lemmas.Bool.{ne_eqb}
 use Rattle.std.proofs.lemmas.List.Elements.{All-cons, All-head, All-nil, All-tail}
 use Rattle.std.specs.Prelude.{◌&&◌, All}
@@ -8,7 +8,6 @@ use Rattle.xp_step.specs.declared.entry.Entry.{Entry}
 use Rattle.xp_step.specs.declared.event.Event.{Event}
 use Rattle.xp_step.specs.declared.event.What.{What}
 use Rattle.xp_step.specs.declared.event.What.TheVariants as events
-use Rattle.xp_step.specs.Worlds.{world_after}
 use Rattle.xp_machine.specs.World.{World}
 use Rattle.xp_lock.specs.declared.receipt.Receipt.{Receipt}
 use Rattle.xp_lock.specs.Forced.{Stalls}
@@ -59,29 +58,19 @@ module _ {A : Type 0} where
     entry = forcing.entry
 
     none_handed : (line : ℕ) → handed line forcing.stalls ≡ []
-    none_handed line =
-        handed_stalls line forcing.stalls (all_stalls subs before is.forces.next forcing.places (entry ∷ []) forcing.stalls (world_after subs (before ++ entries_of forcing)) is.forces.forced)
+    none_handed line = grind (arith, all_stalls, handed_stalls)
 
     -- an event that the exchange itself raised, and its stalls, are no line's
     pub raised_handed : (line : ℕ) → is_raised entry.event.what ≡ true → handed line (entries_of forcing) ≡ []
-    raised_handed line raised =
-        ap (λ b. cond (eqb entry.event.line line && not b) (entry ∷ handed line forcing.stalls) (handed line forcing.stalls)) raised ∙ neither (eqb entry.event.line line) ∙ none_handed line
-      where
-        neither : (b : _) → cond (b && false) (entry ∷ handed line forcing.stalls) (handed line forcing.stalls) ≡ handed line forcing.stalls
-        neither true = refl
-        neither false = refl
+    raised_handed line raised = grind (arith, none_handed)
 
     -- an event of another line, and its stalls
     pub handed_other : (line : ℕ) → entry.event.line ≢ line → handed line (entries_of forcing) ≡ []
-    handed_other line other =
-        ap (λ b. cond (b && not (is_raised entry.event.what)) (entry ∷ handed line forcing.stalls) (handed line forcing.stalls)) (ne_eqb entry.event.line line other) ∙ none_handed line
+    handed_other line other = grind (arith, ne_eqb, none_handed)
 
     -- an event that this line offered, and its stalls
     pub handed_own : (line : ℕ) → entry.event.line ≡ line → is_raised entry.event.what ≡ false → handed line (entries_of forcing) ≡ entry ∷ []
-    handed_own line own kind =
-        ap (λ b. cond (b && not (is_raised entry.event.what)) (entry ∷ handed line forcing.stalls) (handed line forcing.stalls)) (eq-eqb entry.event.line line own)
-        ∙ ap (λ b. cond (not b) (entry ∷ handed line forcing.stalls) (handed line forcing.stalls)) kind
-        ∙ ap (λ xs. entry ∷ xs) (none_handed line)
+    handed_own line own kind = grind (arith, eq-eqb, none_handed)
 
   -- the line saw a front of the history with all entries of its own
   pub gains : (old : Locked A) (event : Event A) (done : Receipt) (new : Locked A) → Takes old event done new → (pass : Pass A) → is_raised event.what ≡ false → event.line ≡ pass.line

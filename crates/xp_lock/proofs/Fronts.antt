@@ -1,5 +1,5 @@
 -- What the holders of seats saw, as the history grows and one of them sees all of it.
-use Rattle.std.proofs.Common.{◌≡◌, ◌≢◌, ℕ, ◌+◌, ◌<◌, Option, Some, None, List, [], ◌∷◌, ◌++◌, length, set, sym, ap, ◌∙◌, subst, inl, inr, arith, append-nil, append_assoc, length-set}
+use Rattle.std.proofs.Common.{◌≡◌, ◌≢◌, ℕ, ◌<◌, Option, Some, None, List, [], ◌∷◌, ◌++◌, length, set, sym, ap, ◌∙◌, subst, inl, inr, arith, append-nil, append_assoc, length-set}
 use Rattle.std.proofs.lemmas.Bool.{cases_eq, cases_lt}
 use Rattle.std.proofs.lemmas.List.{get_or-replicate, get_or-set_other, get_or-set_same, get_or_past, length-replicate, replicate_more}
 use Rattle.std.proofs.lemmas.Option.{none-some, same_Some}
@@ -19,10 +19,7 @@ Known A = List (Option (List (Entry A)))
 module _ {A : Type 0} where
   -- a holder of whom something is known is there
   pub is_there : (known : Known A) (holder : ℕ) (seen : List (Entry A)) → seen_by known holder ≡ Some seen → holder < length known
-  is_there known holder seen is = elim (cases_lt holder (length known)) [
-    | inl within ↦ within
-    | inr past ↦ absurd (none-some seen (sym (get_or_past known holder None past) ∙ is))
-  ]
+  is_there known holder seen is = grind (arith, cases_lt, get_or_past, none-some)
 
   -- what is known of one holder is another matter for the others
   pub seen_before : (known : Known A) (holder other : ℕ) (now : Option (List (Entry A))) (seen : List (Entry A)) → other ≢ holder
@@ -30,34 +27,18 @@ module _ {A : Type 0} where
   seen_before known holder other now seen apart is = sym (get_or-set_other known holder other now None apart) ∙ is
 
   seen_now : (known : Known A) (holder : ℕ) (now : Option (List (Entry A))) (seen : List (Entry A)) → seen_by (set known holder now) holder ≡ Some seen → now ≡ Some seen
-  seen_now known holder now seen is =
-      let there = is_there (set known holder now) holder seen is in
-      sym (get_or-set_same known holder now None (omega (arith, there, length-set known holder now))) ∙ is
+  seen_now known holder now seen is = grind (arith, get_or-set_same, is_there, length-set)
 
   -- nothing more is known once a seat was given back
   pub seen_still : (known : Known A) (holder other : ℕ) (seen : List (Entry A)) → seen_by (set known holder None) other ≡ Some seen → seen_by known other ≡ Some seen
-  seen_still known holder other seen is = elim (cases_eq other holder) [
-    | inl same ↦ absurd (none-some seen (seen_now known holder None seen (ap (seen_by (set known holder None)) (sym same) ∙ is)))
-    | inr apart ↦ seen_before known holder other None seen apart is
-  ]
+  seen_still known holder other seen is = grind (arith, cases_eq, none-some, seen_before, seen_now)
 
   starts_longer : (history front more : List (Entry A)) → StartsWith history front → StartsWith (history ++ more) front
   starts_longer history front more h = (h.0 ++ more, ap (λ xs. xs ++ more) h.1 ∙ append_assoc front h.0 more)
 
   -- the first seats
   pub first_fronts : (lines : ℕ) → AreFronts {A = A} lines [] [] (replicate lines (Some []) ++ Some [] ∷ [])
-  first_fronts lines = record {
-    fronts = λ holder seen is. ([], sym (append-nil seen ∙ nothing holder seen is));
-    own = λ line seen within is. ap (handed line) (sym (nothing line seen is));
-    recorded = λ seen is. ap records_of (sym (nothing lines seen is));
-  } where
-    nothing : (holder : ℕ) (seen : List (Entry A)) → seen_by (replicate lines (Some []) ++ Some [] ∷ []) holder ≡ Some seen → seen ≡ []
-    nothing holder seen is =
-        let all : seen_by (replicate (lines + 1) (Some [])) holder ≡ Some seen = ap (λ known. seen_by known holder) (sym (replicate_more lines (Some []))) ∙ is in
-        elim (cases_lt holder (lines + 1)) [
-          | inl within ↦ same_Some seen [] (sym all ∙ get_or-replicate (lines + 1) holder (Some []) None within)
-          | inr past ↦ absurd (none-some seen (sym (get_or_past (replicate (lines + 1) (Some [])) holder None (omega (arith, past, length-replicate {A = Option (List (Entry A))} (lines + 1) (Some [])))) ∙ all))
-        ]
+  first_fronts lines = grind (arith, append-nil, cases_lt, get_or-replicate, get_or_past, length-replicate, none-some, replicate_more, same_Some)
 
   module _ (lines : ℕ) (history : List (Entry A)) (given : List Record) (known : Known A) (was : AreFronts lines history given known) (more grown : List (Entry A)) (is : grown ≡ history ++ more) where
     abbrev after : ℕ → Known A
@@ -73,9 +54,7 @@ module _ {A : Type 0} where
       ];
       own = λ line seen within now. elim (cases_eq line holder) [
         | inl same ↦ ap (handed line) (whole line seen same now)
-        | inr apart ↦
-            ap (handed line) is ∙ handed-append line history more ∙ ap (λ xs. handed line history ++ xs) (none line within apart) ∙ append-nil (handed line history)
-            ∙ was.own line seen within (seen_before known holder line (Some grown) seen apart now)
+        | inr apart ↦ grind (arith, append-nil, handed-append, seen_before)
       ];
       recorded = recorded;
     } where
@@ -84,8 +63,7 @@ module _ {A : Type 0} where
 
     -- a line sees it, and no record is handed over
     pub fronts_seen : (line : ℕ) → line < lines → ((other : ℕ) → other ≢ line → handed other more ≡ []) → AreFronts lines grown given (after line)
-    fronts_seen line within none = fronts_more line given (λ other _ apart. none other apart)
-        (λ seen now. was.recorded seen (seen_before known line lines (Some grown) seen (λ same. omega (arith, within, same)) now))
+    fronts_seen line within none = grind (arith, fronts_more, seen_before)
 
     -- the recorder sees it, and its records are handed over
     pub fronts_recorded : (later : List Record) → later ≡ records_of grown → ((line : ℕ) → handed line more ≡ []) → AreFronts lines grown later (after lines)

@@ -1,5 +1,5 @@
 -- Which lines were given something, one entry more at a time.
-use Rattle.std.proofs.Common.{◌≡◌, ◌⊎◌, ℕ, ◌+◌, ◌<◌, ◌≤◌, true, false, cond, List, [], ◌∷◌, ◌++◌, drop, get_or, length, ap, sym, subst, ◌∙◌, inl, inr, arith, length-append}
+use Rattle.std.proofs.Common.{◌≡◌, ◌⊎◌, ℕ, ◌+◌, ◌<◌, ◌≤◌, true, false, List, [], ◌∷◌, ◌++◌, drop, get_or, length, ap, sym, subst, ◌∙◌, inl, inr, arith, length-append}
 use Rattle.std.proofs.lemmas.Bool.{cases_eq, cases_lt, cond_both}
 use Rattle.std.proofs.lemmas.List.{drop_more, flat_map_more, length_push}
 use Rattle.xp_step.specs.declared.entry.Entry.{Entry}
@@ -42,10 +42,7 @@ module _ {A : Type 0} where
   -- while a line is added, there is room for it
   pub room_for : (lines : List ℕ) (outputs : List (Output A)) (at : ℕ) (output : Output A) → at < length outputs → output ≡ get_or outputs at output → is_among output.line lines ≡ false
       → length lines + 1 ≤ length (with_lines lines (drop at outputs))
-  room_for lines outputs at output within is out =
-      let first = ap (λ xs. length (with_lines lines xs)) (drop_more outputs at output within ∙ ap (λ x. x ∷ drop (at + 1) outputs) (sym is)) in
-      let new = ap (λ b. length (cond b lines (lines ++ output.line ∷ []))) out in
-      omega (arith, first, new, length_push lines output.line, longer (with_line lines output.line) (drop (at + 1) outputs))
+  room_for lines outputs at output within is out = grind (arith, drop_more, length_push, longer)
 
   all_old : (lines : List ℕ) (outputs : List (Output A)) (line : ℕ) → Among lines line → Among (with_lines lines outputs) line
   all_old lines outputs line here = keeps (λ xs. Among xs line) (one_old line) lines outputs here
@@ -80,17 +77,7 @@ module _ {A : Type 0} where
 
   pub given_more : (entries : List (Entry A)) (entry : Entry A) (lines : List ℕ) → AreGiven entries lines → AreGiven (entries ++ entry ∷ []) (with_lines lines entry.outputs)
   given_more entries entry lines given = record {
-    each = λ line.
-        let all = count_more line entries entry in (
-          λ here. elim (all_cases lines entry.outputs line (among_is (with_lines lines entry.outputs) line here)) [
-            | inl was ↦ let some = (given.each line).0 (is_from lines line was) in omega (arith, some, all)
-            | inr some ↦ omega (arith, some, all)
-          ],
-          λ some. is_from (with_lines lines entry.outputs) line (elim (cases_lt 0 (length (to_line line entry.outputs))) [
-            | inl new ↦ all_new lines entry.outputs line new
-            | inr none ↦ all_old lines entry.outputs line (among_is lines line ((given.each line).1 (omega (arith, some, all, none))))
-          ]),
-        );
+    each = grind (arith, all_cases, all_new, all_old, among_is, cases_lt, count_more, is_from);
     once = keeps AreApart one_apart lines entry.outputs given.once;
   }
 

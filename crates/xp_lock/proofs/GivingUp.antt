@@ -1,9 +1,8 @@
 -- Lines are given up before a reload, one after the other.
-use Rattle.std.proofs.Common.{◌≡◌, ℕ, ◌+◌, ◌*◌, ◌-◌, ◌<◌, ◌≤◌, true, false, true≢false, List, [], ◌∷◌, ◌++◌, length, get_or, refl, ap, sym, subst, ◌∙◌, inl, inr, arith, append_assoc, append-nil, length-append}
+use Rattle.std.proofs.Common.{◌≡◌, ℕ, ◌+◌, ◌*◌, ◌-◌, ◌<◌, ◌≤◌, true, false, List, [], ◌∷◌, ◌++◌, length, get_or, refl, ap, sym, subst, ◌∙◌, inl, inr, arith, append_assoc, append-nil, length-append}
 use Rattle.std.proofs.lemmas.Bool.{cases_eq}
 use Rattle.std.proofs.lemmas.Grind.{flat_map-append}
 use Rattle.std.proofs.lemmas.List.{get_or_default}
-use Rattle.std.proofs.lemmas.List.Elements.{All-get_or}
 use Rattle.std.proofs.lemmas.List.Kept.{AllPairs-from_increasing}
 use Rattle.xp_outbox.specs.Ends.{Putting}
 use Rattle.xp_subs.specs.Tables.{Tables, line_count}
@@ -43,13 +42,7 @@ module _ {A : Type 0} (subs : Tables) where
     pub records : length (records_of stalls) ≤ length stalls
 
   pub none_stalled : (before : List (Entry A)) (world : World) → Run subs before world → AreStalled before world [] world
-  none_stalled before world run = record {
-    run = subst (λ xs. Run subs xs world) (sym (append-nil before)) run;
-    may = λ force next may. may;
-    still = λ force next line must. must;
-    force = ap (in_force subs) (append-nil before);
-    records = omega arith;
-  }
+  none_stalled before world run = grind (arith, append-nil)
 
   pub one_stalled : (before : List (Entry A)) (world : World) (stall : Entry A) (next : World) → Run subs before world → stall.event.what ≡ Stall
       → Step subs before world stall next → AreStalled before world (stall ∷ []) next
@@ -63,17 +56,7 @@ module _ {A : Type 0} (subs : Tables) where
 
   pub stalled_on : (before : List (Entry A)) (world : World) (stalls : List (Entry A)) (next : World) (more : List (Entry A)) (last : World)
       → AreStalled before world stalls next → AreStalled (before ++ stalls) next more last → AreStalled before world (stalls ++ more) last
-  stalled_on before world stalls next more last one two = record {
-    run = subst (λ xs. Run subs xs last) (append_assoc before stalls more) two.run;
-    may = λ force later may. two.may force later (one.may force later may);
-    still = λ force later line must. one.still force later line (two.still force later line must);
-    force = ap (in_force subs) (sym (append_assoc before stalls more)) ∙ two.force ∙ one.force;
-    records =
-        let first = one.records in
-        let second = two.records in
-        let all = ap length (flat_map-append (λ (e : Entry A). e.records.items) stalls more) in
-        omega (arith, first, second, all, length-append (records_of stalls) (records_of more), length-append stalls more);
-  }
+  stalled_on before world stalls next more last one two = grind (arith, append_assoc, flat_map-append, length-append)
 
   pub all_stalled : (before : List (Entry A)) (world : World) (places : ℕ → ℕ) (entries stalls : List (Entry A)) (last : World)
       → Run subs (before ++ entries) world → Stalls subs before world places entries stalls last → AreStalled (before ++ entries) world stalls last
@@ -113,8 +96,7 @@ abbrev pub left_of : List ℕ → ℕ → ℕ
 left_of lines at = length lines - at
 
 pub item_is : (items going : List ℕ) (at : ℕ) → items ≡ going → at < length items → get_or items at 0 ≡ get_or going at (get_or items at 0)
-item_is items going at same within =
-    ap (λ xs. get_or xs at 0) same ∙ get_or_default going at 0 (get_or items at 0) (subst (λ xs. at < length xs) same within)
+item_is items going at same within = grind (arith, get_or_default)
 
 module _ {A : Type 0} (core : Exchange A) (outboxes : List (Putting (Outgoing A))) (next : Tables) (moment : ℕ) (going : List ℕ) where
   abbrev force : Tables
@@ -169,57 +151,21 @@ module _ {A : Type 0} (core : Exchange A) (outboxes : List (Putting (Outgoing A)
 
       -- that line was given up before, as another one was
       pub passes : is_off (state_at (world_of now) line) ≡ true → GivingUp now after (at + 1)
-      passes off = record {
-        given_up = loop.given_up;
-        are = loop.are;
-        filled = loop.filled;
-        stalled = loop.stalled;
-        history = loop.history;
-        subs = loop.subs;
-        given = loop.given;
-        waiting = loop.waiting;
-        kept = loop.kept;
-        left = λ other must.
-            let there = loop.left other must in
-            elim (cases_eq there.0 at) [
-              | inl same ↦
-                  let on = must.in_service in
-                  let here : other ≡ line = sym there.3 ∙ ap (λ k. get_or going k other) same ∙ get_or_default going at other line within ∙ sym is in
-                  absurd (true≢false (sym off ∙ ap (λ l. is_off (state_at (world_of now) l)) (sym here) ∙ on))
-              | inr apart ↦ (there.0, omega (arith, there.1, apart), there.2, there.3)
-            ];
-        places = let had = loop.places in omega (arith, had);
-        stalls = let had = loop.stalls in omega (arith, had);
-        records = let had = loop.records in omega (arith, had);
-      }
+      passes off = grind (arith, cases_eq, get_or_default)
 
       -- that line is given up
       module _ (on : is_off (state_at (world_of now) line) ≡ false) where
         must_go : MustGo force (world_of now) next line
-        must_go =
-            let was : MustGo force (world_of core) next line = subst (MustGo force (world_of core) next) (sym is) (All-get_or (MustGo force (world_of core) next) going at line within are.each) in
-            record { known = was.known; goes = was.goes; in_service = on }
+        must_go = grind arith
 
         lowest : (other : ℕ) → other < line → MustGo force (world_of now) next other → ⊥
-        lowest other below must =
-            let there = loop.left other must in
-            elim (cases_eq there.0 at) [
-              | inl same ↦
-                  let here : other ≡ line = sym there.3 ∙ ap (λ k. get_or going k other) same ∙ get_or_default going at other line within ∙ sym is in
-                  omega (arith, below, here)
-              | inr apart ↦ let above = higher there.0 other (omega (arith, there.1, apart)) there.2 there.3 in omega (arith, below, above)
-            ]
+        lowest other below must = grind (arith, cases_eq, get_or_default, higher)
 
         pub is_line : line_count core.subs ≡ line_count force → line < line_count now.subs
         is_line same = let known = must_go.known in let there = ap line_count loop.subs in omega (arith, known, same, there)
 
         pub can : CanEnter (with_outboxes now after) (stall_of line moment)
-        can = record {
-          running = refl;
-          kept = loop.kept;
-          places = let had = loop.places in let same = ap (λ t. t.journal) loop.subs in omega (arith, had, within, same);
-          room = λ up. absurd (true≢false (sym up));
-        }
+        can = grind arith
 
         pub prepared : 4 ≤ now.stalls
         prepared = let had = loop.stalls in omega (arith, had, within)
@@ -261,9 +207,7 @@ module _ {A : Type 0} (core : Exchange A) (outboxes : List (Putting (Outgoing A)
           one_forcing = subst (λ xs. IsForcing core.subs xs forcing) loop.history (subst (λ t. IsForcing t now.history forcing) loop.subs takes.entered.forced)
 
           forces : Forces core.subs past (world_of now) forcing.places forcing.entry forcing.stalls (world_of new)
-          forces =
-              subst (λ w. Forces core.subs past w forcing.places forcing.entry forcing.stalls (world_of new)) (sym world_is)
-              (subst (λ w. Forces core.subs past (world_after core.subs past) forcing.places forcing.entry forcing.stalls w) (sym last_is) one_forcing.forces)
+          forces = grind (arith, last_is, one_forcing, world_is)
 
           stalled : AreStalled core.subs past (world_of now) (entries_of forcing) (world_of new)
           stalled = forced_stalled core.subs past (world_of now) forcing.places forcing.entry forcing.stalls (world_of new) loop.stalled.run what forces
@@ -279,13 +223,7 @@ module _ {A : Type 0} (core : Exchange A) (outboxes : List (Putting (Outgoing A)
           goes_back other must = subst (λ t. MustGo t (world_of now) next other) loop.stalled.force (subst (λ w. MustGo (in_force core.subs past) w next other) (sym world_is) must)
 
           one_given_up : IsGivenUp core.subs past next moment forcing
-          one_given_up = record {
-            stall = what;
-            moment_is = ap (λ e. e.moment) takes.entered.event_is;
-            must_go = goes_there forcing.entry.event.line (subst (MustGo force (world_of now) next) (sym here) must_go);
-            lowest = λ other below must. lowest other (omega (arith, below, here)) (goes_back other must);
-            forced = one_forcing;
-          }
+          one_given_up = grind (arith, goes_back, goes_there, here, lowest, must_go, one_forcing, what)
 
           grown : all_entries (loop.given_up ++ forcing ∷ []) ≡ so_far ++ entries_of forcing
           grown = entries_more loop.given_up forcing
@@ -300,9 +238,7 @@ module _ {A : Type 0} (core : Exchange A) (outboxes : List (Putting (Outgoing A)
             history = history_is ∙ append_assoc core.history so_far (entries_of forcing) ∙ ap (λ xs. core.history ++ xs) (sym grown);
             subs = subs_are;
             given = ap (λ l. l.given) takes.rest ∙ loop.given;
-            waiting = ap (λ l. l.waiting) takes.rest ∙ ap (λ xs. xs ++ records_of (entries_of forcing)) loop.waiting
-                ∙ append_assoc core.waiting (records_of so_far) (records_of (entries_of forcing))
-                ∙ ap (λ xs. core.waiting ++ xs) (sym (flat_map-append (λ (e : Entry A). e.records.items) so_far (entries_of forcing)) ∙ ap records_of (sym grown));
+            waiting = grind (arith, append_assoc, flat_map-append, grown);
             kept = kept;
             left = λ other must.
                 let there = loop.left other (stalled.still force next other must) in
@@ -313,15 +249,7 @@ module _ {A : Type 0} (core : Exchange A) (outboxes : List (Putting (Outgoing A)
                       (subst (MustGo force (world_of new) next) (that ∙ sym here) must))
                   | inr apart ↦ (there.0, omega (arith, there.1, apart), there.2, there.3)
                 ];
-            places =
-                let had = loop.places in
-                let few = takes.entered.forced.few in
-                let long = ap length takes.entered.history in
-                omega (arith, had, few, long, within, length-append now.history (entries_of forcing));
+            places = grind (arith, length-append);
             stalls = let had = loop.stalls in omega (arith, had, used, within);
-            records =
-                let had = loop.records in
-                let few = takes.entered.forced.few in
-                let long = ap length grown in
-                omega (arith, had, few, long, within, length-append so_far (entries_of forcing));
+            records = grind (arith, grown, length-append);
           }

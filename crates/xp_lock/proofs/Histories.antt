@@ -1,5 +1,5 @@
 -- A history grows by an event and the stalls that it forced, and by a reload with the stalls that give up lines.
-use Rattle.std.proofs.Common.{◌≡◌, ℕ, false, true≢false, List, [], ◌∷◌, ◌++◌, sym, refl, ap, ◌∙◌, subst, append_assoc, append-nil}
+use Rattle.std.proofs.Common.{arith, ◌≡◌, ℕ, false, true≢false, List, [], ◌∷◌, ◌++◌, sym, refl, ap, ◌∙◌, subst, append_assoc, append-nil}
 use Rattle.std.proofs.lemmas.Grind.{flat_map-append}
 use Rattle.std.specs.Prelude.{flat_map}
 use Rattle.xp_subs.specs.Tables.{Tables}
@@ -14,7 +14,7 @@ use Rattle.xp_seats.specs.Handed.{is_raised}
 use Rattle.xp_lock.specs.declared.receipt.Receipt.{Receipt}
 use Rattle.xp_lock.specs.Locked.{Locked, Takes}
 use Rattle.xp_lock.proofs.Fresh.{not_stall}
-use Rattle.xp_lock.specs.Histories.{AllHappen, AreForced, AreGivenUp, Forcing, GivesUpFor, Happening, Happens, IsForcing, IsGivenUp, all_entries, entries_in, entries_of}
+use Rattle.xp_lock.specs.Histories.{AllHappen, AreForced, AreGivenUp, Forcing, Happening, Happens, IsGivenUp, all_entries, entries_in, entries_of}
 
 -- what lines offer brings no tables
 brings_none : {A : Type 0} (force : Tables) (world : World) (what : What A) (brought : List Tables) → is_raised what ≡ false → Brings force world what brought → brought ≡ []
@@ -71,9 +71,5 @@ module _ {A : Type 0} where
         let brought : forcing.entry.tables.items ≡ [] =
         brings_none (in_force old.subs old.history) (world_after old.subs old.history) forcing.entry.event.what forcing.entry.tables.items raised takes.entered.forced.forces.step.brought in
         let last : Happening A = record { given_up = []; event = forcing } in
-        let one : Happens old.subs old.history last = record {
-          own = not_stall forcing.entry.event.what raised;
-          given_up = subst (λ tables. GivesUpFor old.subs old.history tables forcing.entry.event.moment []) (sym brought) refl;
-          forced = subst (λ xs. IsForcing old.subs xs forcing) (sym (append-nil old.history)) takes.entered.forced;
-        } in
+        let one : Happens old.subs old.history last = grind (arith, append-nil, not_stall) in
         forced_more old.subs old.history new.history last was one takes.entered.history

@@ -1,5 +1,5 @@
 -- What the lock protects is kept by whatever happens under it.
-use Rattle.std.proofs.Common.{◌≡◌, ℕ, ◌<◌, Bool, false, Some, List, [], ◌++◌, set, sym, refl, ap, ◌∙◌, subst, append-nil}
+use Rattle.std.proofs.Common.{arith, ◌≡◌, ℕ, ◌<◌, Bool, false, Some, List, [], ◌++◌, set, sym, refl, ap, ◌∙◌, subst, append-nil}
 use Rattle.atomic_table.specs.Seated.{TableId}
 use Rattle.xp_charge.specs.declared.record.Record.{Record}
 use Rattle.xp_outbox.specs.Ends.{Putting}
@@ -32,23 +32,13 @@ viewed core outboxes halted = record { subs = core.subs; history = core.history;
 pub taken_viewed : {A : Type 0} (core mid next : Exchange A) (outboxes after last : List (Putting (Outgoing A))) (halted : Bool) (event : Event A) (done : Receipt) → halted ≡ false
     → mid ≡ record core { stalls = mid.stalls } → last ≡ after → Takes (with_outboxes mid outboxes) event done (with_outboxes next after)
     → Takes (viewed core outboxes halted) event done (viewed next last halted)
-taken_viewed core mid next outboxes after last halted event done running same unmoved takes =
-    subst (λ h. Takes (viewed core outboxes h) event done (viewed next last h)) (sym running)
-    (subst (λ boxes. Takes (viewed core outboxes false) event done (viewed next boxes false)) (sym unmoved)
-    (subst (λ m. Takes (with_outboxes m outboxes) event done (with_outboxes next after)) same takes))
+taken_viewed core mid next outboxes after last halted event done running same unmoved takes = grind arith
 
 module _ {A : Type 0} (subs : Tables) (queues : List TableId) (table : TableId) (core : Exchange A) (outboxes : List (Putting (Outgoing A))) (seats : Seats A)
     (was : IsKept subs queues table core outboxes seats) (next : Exchange A) (after : List (Putting (Outgoing A))) where
   -- the exchange looked at free places, and prepared stalls
   pub kept_looked : AreAlike outboxes after → next ≡ record core { stalls = next.stalls } → IsKept subs queues table next after seats
-  kept_looked alike same = subst (λ c. IsKept subs queues table c after seats) (sym same) (record {
-    subs_are = was.subs_are;
-    queues_are = same_queues outboxes after alike.count (λ line. (alike.each line).queue) ∙ was.queues_are;
-    table_is = was.table_is;
-    matches = kept_ready core.subs core.history outboxes after alike was.matches;
-    forced = was.forced;
-    fronts = was.fronts;
-  })
+  kept_looked alike same = grind (arith, kept_ready, same_queues)
 
   -- an event of a line was taken, and the line saw that
   pub kept_taken : (event : Event A) (done : Receipt) → Takes (with_outboxes core outboxes) event done (with_outboxes next after) → is_raised event.what ≡ false → event.line < line_count subs

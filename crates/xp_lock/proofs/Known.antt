@@ -1,5 +1,5 @@
 -- What entries put out is in the outboxes, and how many places of these were free before.
-use Rattle.std.proofs.Common.{◌≡◌, ℕ, ◌+◌, ◌≤◌, true, List, [], ◌∷◌, ◌++◌, length, sym, refl, ap, ◌∙◌, arith, append_assoc, append-nil}
+use Rattle.std.proofs.Common.{◌≡◌, ℕ, ◌+◌, ◌≤◌, true, List, [], ◌∷◌, ◌++◌, length, sym, refl, ap, arith, append_assoc, append-nil}
 use Rattle.xp_outbox.specs.Ends.{Putting}
 use Rattle.xp_step.specs.declared.entry.Entry.{Entry}
 use Rattle.xp_step.specs.declared.output.Outgoing.{Outgoing}
@@ -7,7 +7,7 @@ use Rattle.xp_machine.specs.Channel.{is_off}
 use Rattle.xp_machine.specs.World.{World, state_at}
 use Rattle.xp_lock.specs.Outboxes.{outbox_at}
 use Rattle.xp_lock.specs.steps.Outboxes.{HasRoomFor, IsAlike, IsPut}
-use Rattle.xp_lock.specs.Outgoing.{put_out_to, to_line}
+use Rattle.xp_lock.specs.Outgoing.{put_out_to}
 use Rattle.xp_lock.specs.Locked.{IsGiven}
 use Rattle.xp_lock.proofs.GivenLines.{count_more, put_more}
 
@@ -30,36 +30,16 @@ module _ {A : Type 0} where
 
   pub looked_out : (outboxes between after : List (Putting (Outgoing A))) (entries : List (Entry A)) → AreGivenOut outboxes entries between
       → ((line : ℕ) → IsAlike (outbox_at between line) (outbox_at after line)) → AreGivenOut outboxes entries after
-  looked_out outboxes between after entries out alike line = record {
-    queue = (alike line).queue ∙ (out line).queue;
-    capacity = (alike line).capacity ∙ (out line).capacity;
-    put = (alike line).put ∙ (out line).put;
-    free = refl;
-    known = let least = (out line).known in let more = (alike line).free in omega (arith, least, more);
-  }
+  looked_out outboxes between after entries out alike line = grind arith
 
   -- as seen from outboxes before a look
   pub since_look : (first outboxes after : List (Putting (Outgoing A))) (entries : List (Entry A)) → ((line : ℕ) → IsAlike (outbox_at first line) (outbox_at outboxes line))
       → AreGivenOut outboxes entries after → AreGivenOut first entries after
-  since_look first outboxes after entries alike out line = record {
-    queue = (out line).queue ∙ (alike line).queue;
-    capacity = (out line).capacity ∙ (alike line).capacity;
-    put = (out line).put ∙ ap (λ xs. xs ++ put_out_to line entries) (alike line).put;
-    free = refl;
-    known = let least = (out line).known in let more = (alike line).free in omega (arith, least, more);
-  }
+  since_look first outboxes after entries alike out line = grind arith
 
   module _ (after last : List (Putting (Outgoing A))) (entries : List (Entry A)) (entry : Entry A) (room : HasRoomFor entry.outputs after) (put : IsPut entry.outputs after last) where
     pub as_many : (line : ℕ) → known_before (entries ++ entry ∷ []) last line ≡ known_before entries after line
     as_many line = let fits = room line in let left = ap (λ b. b.free) (put.each line) in omega (arith, fits, left, count_more line entries entry)
 
     pub more_out : (outboxes : List (Putting (Outgoing A))) → AreGivenOut outboxes entries after → AreGivenOut outboxes (entries ++ entry ∷ []) last
-    more_out outboxes out line = record {
-      queue = ap (λ b. b.queue) (put.each line) ∙ (out line).queue;
-      capacity = ap (λ b. b.capacity) (put.each line) ∙ (out line).capacity;
-      put = ap (λ b. b.put) (put.each line) ∙ ap (λ xs. xs ++ to_line line entry.outputs) (out line).put
-          ∙ append_assoc (outbox_at outboxes line).put (put_out_to line entries) (to_line line entry.outputs)
-          ∙ ap (λ xs. (outbox_at outboxes line).put ++ xs) (sym (put_more line entries entry));
-      free = refl;
-      known = let least = (out line).known in omega (arith, least, as_many line);
-    }
+    more_out outboxes out line = grind (arith, append_assoc, as_many, put_more)

@@ -1,8 +1,7 @@
 -- The lowest of some lines that pass a test, and the test that a line is short of places.
-use Rattle.std.proofs.Common.{◌≡◌, ℕ, ◌<◌, ◌≤◌, Bool, true, false, true≢false, not, Some, None, List, [], ◌∷◌, filter, fold, length, refl, ap, sym, subst, ◌∙◌, inl, inr, arith}
+use Rattle.std.proofs.Common.{◌≡◌, ℕ, ◌<◌, ◌≤◌, Bool, true, false, not, Some, None, List, [], ◌∷◌, filter, fold, length, refl, ap, sym, subst, ◌∙◌, inl, inr, arith}
 use Rattle.std.specs.List.{reduce}
-use Rattle.std.specs.Prelude.{◌&&◌, min, nat_lt}
-use borrow.Author.Tests.{ltb-true}
+use Rattle.std.specs.Prelude.{min, nat_lt}
 use Rattle.std.proofs.Math.Nat.{min-eq_left, min-eq_right}
 use Rattle.std.proofs.lemmas.Bool.{and_from, and_parts, cases_lt, cond_both, false_from_ne_true, lt-ltb, not_from_false}
 use Rattle.xp_outbox.specs.Ends.{Putting}
@@ -24,18 +23,14 @@ fold_least a (x ∷ xs) y (inr (inr rest)) = fold_least (min a x) xs y (inr rest
 fold_among : (a : ℕ) (xs : List ℕ) → Among (a ∷ xs) (fold min a xs)
 fold_among a [] = inl refl
 fold_among a (x ∷ xs) = elim (fold_among (min a x) xs) [
-  | inl same ↦ elim (cases_lt a x) [
-    | inl lower ↦ inl (same ∙ min-eq_left (omega (arith, lower)))
-    | inr higher ↦ inr (inl (same ∙ min-eq_right (omega (arith, higher))))
-  ]
+  | inl same ↦ grind (arith, cases_lt, min-eq_left, min-eq_right)
   | inr rest ↦ inr (inr rest)
 ]
 
 module _ (p : ℕ → Bool) where
   passing : (xs : List ℕ) (y : ℕ) → Among xs y → p y ≡ true → Among (filter p xs) y
   passing [] y here passes = absurd here
-  passing (x ∷ xs) y (inl same) passes =
-      cond_both (p x) (x ∷ filter p xs) (filter p xs) (λ zs. Among zs y) (λ yes. inl same) (λ no. absurd (true≢false (sym passes ∙ ap p same ∙ no)))
+  passing (x ∷ xs) y (inl same) passes = grind (arith, cond_both)
   passing (x ∷ xs) y (inr rest) passes =
       cond_both (p x) (x ∷ filter p xs) (filter p xs) (λ zs. Among zs y) (λ yes. inr (passing xs y rest passes)) (λ no. passing xs y rest passes)
 
@@ -67,10 +62,7 @@ module _ (p : ℕ → Bool) where
         }
 
   pub none_passes : (lines : List ℕ) → None ≡ reduce min (filter p lines) → (other : ℕ) → Among lines other → p other ≡ true → ⊥
-  none_passes lines is other there passes = by (filter p lines) is (passing lines other there passes) where
-    by : (found : List ℕ) → None ≡ reduce min found → Among found other → ⊥
-    by [] is here = here
-    by (x ∷ xs) is here = absurd (cc)
+  none_passes lines is other there passes = grind (arith, passing)
 
 -- a line that is short of places
 module _ {A : Type 0} (core : Exchange A) (outboxes : List (Putting (Outgoing A))) (line : ℕ) where
@@ -81,11 +73,7 @@ module _ {A : Type 0} (core : Exchange A) (outboxes : List (Putting (Outgoing A)
   serves = not (is_off (state_at (world_of core) line))
 
   pub short_parts : is_short core outboxes line ≡ true → (line < length outboxes) × ((outbox_at outboxes line).free < PLACES_KEPT) × (is_off (state_at (world_of core) line) ≡ false)
-  short_parts is =
-      let there = and_parts (nat_lt line (length outboxes)) (lacks && serves) is in
-      let both = and_parts lacks serves there.1 in
-      (ltb-true _ _ there.0, ltb-true _ _ both.0, false_from_ne_true _ (λ off. true≢false (sym both.1 ∙ ap not off)))
+  short_parts is = grind (arith, and_parts, false_from_ne_true)
 
   pub short_from : line < length outboxes → (outbox_at outboxes line).free < PLACES_KEPT → is_off (state_at (world_of core) line) ≡ false → is_short core outboxes line ≡ true
-  short_from there short on =
-      and_from (nat_lt line (length outboxes)) (lacks && serves) (lt-ltb _ _ there) (and_from lacks serves (lt-ltb _ _ short) (not_from_false _ on))
+  short_from there short on = grind (arith, and_from, lt-ltb, not_from_false)

@@ -1,25 +1,22 @@
 -- What an exchange begins with.
-use Rattle.std.proofs.Common.{◌≡◌, ℕ, zero, suc, ◌+◌, ◌<◌, true, true≢false, Some, List, [], ◌∷◌, ◌++◌, drop, length, sym, refl, ap, ◌∙◌, inl, inr, arith, length-append}
+use Rattle.std.proofs.Common.{◌≡◌, ℕ, zero, suc, ◌+◌, ◌<◌, true, Some, List, [], ◌∷◌, ◌++◌, drop, length, sym, refl, ◌∙◌, arith, length-append}
 use Rattle.std.proofs.lemmas.Bool.{cases_lt}
 use Rattle.std.proofs.lemmas.List.{get_or_past, get_or-replicate, length-replicate, map-append}
-use Rattle.std.proofs.lemmas.List.Elements.{All-get_or, All-push}
-use Rattle.std.specs.Prelude.{replicate, slice_get}
+use Rattle.std.proofs.lemmas.List.Elements.{All-push}
+use Rattle.std.specs.Prelude.{slice_get}
 use Rattle.xp_outbox.specs.Ends.{Putting, Taking}
 use Rattle.xp_subs.specs.Tables.{Tables, line_count}
 use Rattle.xp_step.specs.declared.output.Outgoing.{Outgoing}
 use Rattle.xp_machine.specs.Channel.{is_off}
-use Rattle.xp_machine.specs.World.{off_line, opening, state_at}
-use Rattle.xp_lock.specs.Outboxes.{CAPACITY, no_outbox}
+use Rattle.xp_machine.specs.World.{opening, state_at}
+use Rattle.xp_lock.specs.Outboxes.{CAPACITY}
 use Rattle.xp_lock.specs.steps.Outboxes.{OutboxesMatch}
 use Rattle.xp_lock.specs.Opening.{AreFirst, first_pass}
 use Rattle.xp_lock.specs.steps.Opening.{AreNew, IsUnused}
 use Rattle.xp_lock.specs.Passes.{Pass}
 
 all_off : (count line : ℕ) → is_off (state_at (opening count) line) ≡ true
-all_off count line = elim (cases_lt line count) [
-  | inl within ↦ ap (λ l. is_off l.state) (get_or-replicate count line off_line off_line within)
-  | inr past ↦ ap (λ l. is_off l.state) (get_or_past (replicate count off_line) line off_line (omega (arith, length-replicate count off_line)))
-]
+all_off count line = grind (arith, cases_lt, get_or-replicate, get_or_past, length-replicate)
 
 pub at_front : {X : Type 0} (xs : List X) (n : ℕ) (x : X) (rest : List X) → drop n xs ≡ x ∷ rest → slice_get xs n ≡ Some x
 at_front [] zero x rest e = absurd (cc)
@@ -35,13 +32,7 @@ drop_rest (y ∷ ys) (suc n) x rest e = drop_rest ys n x rest e
 
 module _ {A : Type 0} where
   pub new_kept : (subs : Tables) (outboxes : List (Putting (Outgoing A))) (ends : List (Taking (Outgoing A))) → AreNew (line_count subs) outboxes ends → OutboxesMatch {A = A} subs [] outboxes
-  new_kept subs outboxes ends new = record {
-    count = new.box_count;
-    capacities = λ line within. All-get_or (λ (box : Putting (Outgoing A)). box.capacity ≡ CAPACITY) outboxes line no_outbox (let count = new.box_count in omega (arith, within, count)) new.capacities;
-    put = λ line within. All-get_or (λ (box : Putting (Outgoing A)). box.put ≡ []) outboxes line no_outbox within new.put;
-    places = λ line on. absurd (true≢false (sym (all_off (line_count subs) line) ∙ on));
-    few = omega arith;
-  }
+  new_kept subs outboxes ends new = grind (arith, all_off)
 
   pub new_push : (lines : ℕ) (outboxes : List (Putting (Outgoing A))) (ends : List (Taking (Outgoing A))) (box : Putting (Outgoing A)) (end : Taking (Outgoing A))
       → AreNew lines outboxes ends → box.queue ≡ end.queue → box.capacity ≡ CAPACITY → box.put ≡ [] → IsUnused end → AreNew (lines + 1) (outboxes ++ box ∷ []) (ends ++ end ∷ [])
@@ -71,14 +62,4 @@ module _ {A : Type 0} where
   get_last (y ∷ ys) x (suc k) is = get_last ys x k (omega (arith, is))
 
   pub first_push : (lines : ℕ) (passes : List (Pass A)) (pass : Pass A) → AreFirst lines passes → pass ≡ first_pass lines → AreFirst (lines + 1) (passes ++ pass ∷ [])
-  first_push lines passes pass first is =
-      let count : length passes ≡ lines = first.count in
-      record {
-        count = omega (arith, count, length-append passes (pass ∷ []));
-        each = λ line within. elim (cases_lt line lines) [
-          | inl below ↦ get_push passes pass line (omega (arith, below, count)) ∙ first.each line below
-          | inr last ↦
-              let here : line ≡ length passes = omega (arith, within, last, count) in
-              get_last passes pass line here ∙ ap Some (is ∙ ap first_pass (sym (here ∙ count)))
-        ];
-      }
+  first_push lines passes pass first is = grind (arith, cases_lt, get_last, get_push, length-append)

@@ -1,8 +1,7 @@
 -- A reload under the lock.
-use Rattle.std.proofs.Common.{◌≡◌, ◌∙◌, ℕ, ◌<◌, ◌≤◌, List, [], ◌∷◌, ◌++◌, cond, eqb, Bool, true, false, length, refl, ap, sym, subst, append_assoc, append-nil, arith}
+use Rattle.std.proofs.Common.{◌≡◌, ◌∙◌, ℕ, ◌<◌, ◌≤◌, List, [], ◌∷◌, ◌++◌, length, refl, ap, sym, subst, append_assoc, append-nil, arith}
 use Rattle.std.proofs.lemmas.List.{flat_map_more}
 use Rattle.std.proofs.lemmas.List.Elements.{All-nil}
-use Rattle.std.specs.Prelude.{not, ◌&&◌}
 use Rattle.xp_charge.specs.declared.record.Record.{Record}
 use Rattle.xp_outbox.specs.Ends.{Putting}
 use Rattle.xp_subs.specs.Tables.{Tables}
@@ -12,18 +11,12 @@ use Rattle.xp_step.specs.declared.output.Outgoing.{Outgoing}
 use Rattle.xp_core.specs.Records.{records_of}
 use Rattle.xp_core.specs.Reload.{MayReplace, MustGo, reload_at}
 use Rattle.xp_core.proofs.GivenUp.{may_follow}
-use Rattle.xp_machine.specs.Changes.{all_changed, recorded_by}
-use Rattle.xp_machine.specs.Channel.{is_off}
-use Rattle.xp_machine.specs.World.{World, state_at}
+use Rattle.xp_machine.specs.World.{World}
 use Rattle.xp_seats.specs.Handed.{handed, is_raised, is_stall}
 use Rattle.xp_seats.proofs.Lists.{handed-append}
 use Rattle.xp_step.specs.Exchange.{Advances, Exchange, world_of}
-use Rattle.xp_step.specs.Effects.{effects_of}
-use Rattle.xp_step.specs.InForce.{MayFollow, in_force, last_of}
-use Rattle.xp_step.specs.Segments.{segments_of}
+use Rattle.xp_step.specs.InForce.{MayFollow, in_force}
 use Rattle.xp_step.specs.Step.{Step}
-use Rattle.xp_step.specs.StepContext.{step_context}
-use Rattle.xp_step.specs.Table.{action_at}
 use Rattle.xp_step.specs.Worlds.{world_after}
 use Rattle.xp_step.proofs.InForce.{in_force_on}
 use Rattle.xp_lock.specs.Locked.{Locked}
@@ -42,15 +35,10 @@ module _ {A : Type 0} where
       (is : entry.event ≡ reload_at moment) (step : Step subs history world entry next) where
     -- it changes nothing
     pub stays : next ≡ world
-    stays =
-        let W : Event A → World = λ e. all_changed (effects_of (step_context subs history world e.line e.moment) e.what (action_at world e) entry.outcome) world in
-        step.leads ∙ ap W is
+    stays = grind arith
 
     pub records_none : entry.records.items ≡ []
-    records_none =
-        let R : Event A → List Record = λ e.
-        recorded_by (segments_of subs history) e.moment world (effects_of (step_context subs history world e.line e.moment) e.what (action_at world e) entry.outcome) in
-        step.records ∙ ap R is
+    records_none = grind arith
 
   put_none : (line : ℕ) (entry : Entry A) → entry.outputs ≡ [] → put_out_to line (entry ∷ []) ≡ []
   put_none line entry quiet = append-nil (to_line line entry.outputs) ∙ ap (to_line line) quiet
@@ -73,16 +61,7 @@ module _ {A : Type 0} where
   pub reload_matches : (subs : Tables) (history : List (Entry A)) (outboxes : List (Putting (Outgoing A))) (entry : Entry A) (moment : ℕ)
       → entry.event ≡ reload_at moment → entry.outputs ≡ [] → Step subs history (world_after subs history) entry (world_after subs (history ++ entry ∷ []))
       → length (history ++ entry ∷ []) ≤ subs.journal → OutboxesMatch subs history outboxes → OutboxesMatch subs (history ++ entry ∷ []) outboxes
-  reload_matches subs history outboxes entry moment is quiet step few kept = record {
-    count = kept.count;
-    capacities = kept.capacities;
-    put = λ line within. kept.put line within
-        ∙ sym (put_more line history entry ∙ ap (λ more. put_out_to line history ++ more) (ap (to_line line) quiet) ∙ append-nil (put_out_to line history));
-    places = λ line on.
-        let same : world_after subs (history ++ entry ∷ []) ≡ world_after subs history = stays subs history (world_after subs history) entry _ moment is step in
-        kept.places line (ap (λ w. is_off (state_at w line)) (sym same) ∙ on);
-    few = few;
-  }
+  reload_matches subs history outboxes entry moment is quiet step few kept = grind (arith, append-nil, put_more, stays)
 
   -- ---- behind the lines that were given up
 
@@ -120,9 +99,7 @@ module _ {A : Type 0} where
       step_now = advances.step
 
       step_past : StepFrom past (world_of new)
-      step_past =
-          subst (λ xs. StepFrom xs (world_of new)) loop.history
-          (subst (λ t. Step t now.history (world_after t now.history) entry (world_of new)) loop.subs step_now)
+      step_past = grind (arith, step_now)
 
       history_is : new.history ≡ past ++ entry ∷ []
       history_is = advances.history ∙ ap (λ xs. xs ++ entry ∷ []) loop.history
@@ -143,28 +120,7 @@ module _ {A : Type 0} where
       still = stays now.subs now.history (world_of now) entry (world_of new) moment advances.event_is step_now
 
       pub reloads : (taken : List Record) → taken ≡ now.waiting → Reloads (with_outboxes core outboxes) next moment taken (with_outboxes new after)
-      reloads taken is =
-          let records : taken ≡ core.waiting ++ records_of so_far = is ∙ loop.waiting in
-          let given : new.given ≡ core.given ++ taken = advances.given ∙ ap (λ xs. xs ++ now.waiting) loop.given ∙ ap (λ xs. core.given ++ xs) (sym is) in
-          let waiting : new.waiting ≡ [] = advances.waiting ∙ unrecorded in
-          record {
-            running = refl;
-            given_up = loop.given_up;
-            are_given_up = loop.are;
-            entry = entry;
-            event_is = advances.event_is;
-            brought = brought;
-            quiet = quiet;
-            unrecorded = unrecorded;
-            step = step_past;
-            out = λ line within goes.
-                let count = may.frame.count in
-                let off = follows_here.out line (omega (arith, within, count)) goes in
-                ap (λ w. is_off (state_at w line)) still ∙ off;
-            filled = loop.filled;
-            taken = records;
-            grown = λ i. record { subs = subs_are i; history = history_is i; given = given i; waiting = waiting i; outboxes = after; halted = false };
-          }
+      reloads taken is = grind (arith, follows_here, history_is, step_past, subs_are, unrecorded)
 
       pub all_recorded : (taken : List Record) → taken ≡ now.waiting → now.given ++ now.waiting ≡ records_of now.history → core.given ++ taken ≡ records_of new.history
       all_recorded taken is each =
@@ -213,21 +169,7 @@ module _ {A : Type 0} where
 
     -- no line offered them
     pub reload_handed : (line : ℕ) → handed line reload_entries ≡ []
-    reload_handed line =
-        handed-append line (all_entries did.given_up) (did.entry ∷ [])
-        ∙ (λ i. none_given_up old.subs old.history next moment line did.given_up did.are_given_up i ++ last i)
-      where
-        raised : is_raised did.entry.event.what ≡ true
-        raised = ap (λ (e : Event A). is_raised e.what) did.event_is
-
-        neither : (b : Bool) → cond (b && false) (did.entry ∷ []) [] ≡ []
-        neither true = refl
-        neither false = refl
-
-        last : handed line (did.entry ∷ []) ≡ []
-        last = ap (λ b. cond (eqb did.entry.event.line line && not b) (did.entry ∷ []) []) raised ∙ neither (eqb did.entry.event.line line)
+    reload_handed line = grind (arith, handed-append, none_given_up)
 
     pub reload_in_force : in_force old.subs new.history ≡ next
-    reload_in_force =
-        ap (λ l. in_force old.subs l.history) did.grown ∙ in_force_on old.subs (old.history ++ all_entries did.given_up) did.entry
-        ∙ ap (last_of (in_force old.subs (old.history ++ all_entries did.given_up))) did.brought
+    reload_in_force = grind (arith, in_force_on)

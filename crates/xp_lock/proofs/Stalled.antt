@@ -1,6 +1,5 @@
 -- What the stall of a line in service does.
-use Rattle.std.proofs.Common.{◌≡◌, ℕ, ◌<◌, ◌≤◌, true, false, true≢false, eqb, Option, Some, None, List, filter, length, refl, ap, sym, subst, ◌∙◌, inl, inr, arith}
-use Rattle.std.specs.Option.{unwrap_or}
+use Rattle.std.proofs.Common.{◌≡◌, ℕ, ◌<◌, ◌≤◌, true, false, true≢false, Option, Some, None, List, length, ap, sym, subst, ◌∙◌, inl, inr, arith}
 use Rattle.std.proofs.lemmas.Bool.{true_from_ne_false}
 use Rattle.std.proofs.lemmas.List.{length-map}
 use Rattle.std.proofs.lemmas.List.Sums.{count_by-le-length, length-filter}
@@ -9,14 +8,11 @@ use Rattle.xp_channel.specs.declared.action.Action.TheVariants.{Fall}
 use Rattle.xp_channel.specs.declared.channel.Channel.TheVariants as channels
 use Rattle.xp_channel.specs.declared.kind.EventKind.TheVariants as kinds
 use Rattle.xp_channel.specs.Table.{cell}
-use Rattle.xp_packets.specs.declared.packet.Packet.{Packet}
 use Rattle.xp_subs.specs.Tables.{Tables}
 use Rattle.xp_step.specs.declared.entry.Entry.{Entry}
 use Rattle.xp_step.specs.declared.event.What.TheVariants.{Stall}
-use Rattle.xp_step.specs.declared.output.Output.{Output}
 use Rattle.xp_step.specs.Acts.{Acts, IsPlain, outputs_of_fall}
-use Rattle.xp_machine.specs.Channel.{State, Off, channel_of, is_off}
-use Rattle.xp_machine.specs.Coupling.{IsEnd}
+use Rattle.xp_machine.specs.Channel.{State, channel_of, is_off}
 use Rattle.xp_step.specs.Outcomes.{taken_by}
 use Rattle.xp_step.specs.StepContext.{StepContext, step_context}
 use Rattle.xp_step.specs.Run.{Run}
@@ -24,8 +20,8 @@ use Rattle.xp_step.specs.Step.{Step}
 use Rattle.xp_step.specs.Table.{action_at, action_in}
 use Rattle.xp_core.specs.States.{IsStateAfter, channel_at}
 use Rattle.xp_core.specs.steps.Stalling.{outputs_of_stall}
-use Rattle.xp_step.specs.EventOutputs.{outputs_of, send_far}
-use Rattle.xp_machine.specs.World.{Call, World, call_on, state_at}
+use Rattle.xp_step.specs.EventOutputs.{outputs_of}
+use Rattle.xp_machine.specs.World.{World, state_at}
 use Rattle.xp_machine.proofs.InCall.{end_of, shown_on}
 use Rattle.xp_core.proofs.Sounds.{run_right}
 use Rattle.xp_core.proofs.States.{state_follows}
@@ -37,12 +33,10 @@ use Rattle.xp_lock.proofs.Three.{far_from, goes_to, rises, trio}
 
 -- the table of actions takes each line in service out of it
 falls : (state : State) → is_off state ≡ false → cell (channel_of state) kinds.Down ≡ Fall
-falls Off on = absurd (true≢false on)
-falls state on = refl
+falls state one = grind arith
 
 off_from : (state : State) → channel_of state ≡ channels.Off → is_off state ≡ true
-off_from Off is = refl
-off_from state is = absurd (cc)
+off_from state is = grind arith
 
 not_both : (found : Option ℕ) (line : ℕ) → found ≡ None → found ≡ Some line → ⊥
 not_both found line none some = absurd (cc)
@@ -70,34 +64,12 @@ module _ {A : Type 0} (tables : Tables) (before : List (Entry A)) (world : World
   outputs_are = step.outputs ∙ ap outputs_of acts.1 ∙ ap (λ w. outputs_of (outputs_of_fall at w)) is
 
   pub few : (l : ℕ) → length (to_line l stall.outputs) ≤ 2
-  few l =
-      let each = count_by-le-length (λ (o : Output A). eqb o.line l) stall.outputs in
-      let kept = length-filter (λ (o : Output A). eqb o.line l) stall.outputs in
-      let same = length-map (filter (λ (o : Output A). eqb o.line l) stall.outputs) (λ (o : Output A). o.outgoing) in
-      let all : length stall.outputs ≡ length (outputs_of (outputs_of_stall at)) = ap length outputs_are in
-      let two : length (outputs_of (outputs_of_stall at)) ≤ 2 = two_at_most (call_on world line) _ in
-      omega (arith, each, kept, same, all, two)
-    where
-      two_at_most : (found : Option (ℕ × Call)) (packet : Packet A) → length (outputs_of (record (outputs_of_stall at) { far = send_far world line found packet })) ≤ 2
-      two_at_most None packet = omega arith
-      two_at_most (Some found) packet = omega arith
+  few l = grind (arith, count_by-le-length, length-filter, length-map, outputs_are)
 
   -- where a call has both its lines among these, or none
   module _ (lines : List ℕ) (closed : AreClosed lines world) where
     pub goes_among : Among lines line → (l : ℕ) → 0 < length (to_line l stall.outputs) → Among lines l
-    goes_among here l some = among (goes_to tables before world run stall next step l some) where
-      by_far : (found : Option (ℕ × Call)) → call_on world line ≡ found → l ≡ far_from line found → Among lines l
-      by_far None in_call same = subst (Among lines) (sym same) here
-      by_far (Some found) in_call same =
-          let shown = shown_on world line found in_call in
-          let end = end_of tables world (run_right tables before world run).coupled line found.0 found.1 shown.0 shown.1 in
-          closed found.0 found.1 shown.1 line l end (subst (IsEnd found.1) (sym same) (far_is_end found.1 line)) here
-
-      among : Among (trio world line stall.outcome) l → Among lines l
-      among (inl same) = subst (Among lines) (sym same) here
-      among (inr (inl same)) = by_far (call_on world line) refl same
-      among (inr (inr (inl same))) = subst (Among lines) (sym (same ∙ ap (λ t. unwrap_or t line) untaken)) here
-      among (inr (inr (inr none))) = absurd none
+    goes_among here l some = grind (arith, end_of, far_from, far_is_end, goes_to, run_right, shown_on, trio, untaken)
 
     pub closed_next : AreClosed lines next
     closed_next = still_closed tables before world run stall next step lines closed (λ called took. absurd (not_both (taken_by stall.outcome) called untaken took))

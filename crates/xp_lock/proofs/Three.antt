@@ -1,42 +1,37 @@
 -- Whom a step puts something out to: its line, the far end of the call that it is in, and a line that a new call is put to. No
 -- other line changes, and none comes into service but by an Up of its own.
-use Rattle.std.proofs.Common.{◌≡◌, ◌≢◌, ◌⊎◌, ℕ, ◌<◌, Bool, true, false, true≢false, cond, eqb, Option, Some, None, List, [], ◌∷◌, ◌++◌, All, filter, length, map, refl, ap, sym, subst, ◌∙◌, inl, inr, arith}
+use Rattle.std.proofs.Common.{◌≡◌, ◌≢◌, ◌⊎◌, ℕ, ◌<◌, Bool, true, false, cond, eqb, Option, Some, None, List, [], ◌∷◌, ◌++◌, All, filter, length, map, refl, ap, sym, subst, ◌∙◌, inl, inr, arith}
 use Rattle.std.specs.Option.{unwrap_or}
 use Rattle.std.proofs.lemmas.Bool.{cases_Bool, cases_eq, cond_both, ne_eqb}
 use Rattle.std.proofs.lemmas.List.Elements.{All-append, All-from_recursion, All-head, All-tail}
 use Rattle.std.specs.List.{AllByRecursion}
-use Rattle.xp_causes.specs.declared.clearing_cause.TheConstants.{LOCAL_PROCEDURE_ERROR, NETWORK_CONGESTION, NUMBER_BUSY, REMOTE_PROCEDURE_ERROR}
-use Rattle.xp_causes.specs.declared.diagnostic.TheConstants.{CALL_COLLISION, NO_ADDITIONAL_INFORMATION, TIMER_EXPIRED_FOR_INCOMING_CALL}
+use Rattle.xp_causes.specs.declared.clearing_cause.TheConstants.{NETWORK_CONGESTION}
+use Rattle.xp_causes.specs.declared.diagnostic.TheConstants.{NO_ADDITIONAL_INFORMATION}
 use Rattle.xp_channel.specs.declared.action.Action.{Action}
-use Rattle.xp_channel.specs.declared.action.Action.TheVariants.{Nothing, Rise, Fall, NewCall, Collision, Answer, Confirm, Error, Relayed, Expired}
+use Rattle.xp_channel.specs.declared.action.Action.TheVariants.{Nothing, Rise}
 use Rattle.xp_channel.specs.declared.channel.Channel.TheVariants as channels
 use Rattle.xp_channel.specs.Kinds.{kind_of as packet_kind}
 use Rattle.xp_channel.specs.Table.{cell}
 use Rattle.xp_packets.specs.declared.end.End.{End}
 use Rattle.xp_packets.specs.declared.end.End.TheVariants.{Caller, Called}
 use Rattle.xp_packets.specs.declared.packet.Packet.{Packet}
-use Rattle.xp_packets.specs.declared.packet.Packet.TheVariants as packets
 use Rattle.xp_subs.specs.Tables.{Tables}
 use Rattle.xp_step.specs.declared.entry.Entry.{Entry}
 use Rattle.xp_step.specs.declared.event.What.{What}
 use Rattle.xp_step.specs.declared.event.What.TheVariants as events
 use Rattle.xp_step.specs.declared.outcome.Outcome.{Outcome}
-use Rattle.xp_step.specs.declared.outcome.Outcome.TheVariants.{Put, Refused, Connected, Declined}
 use Rattle.xp_step.specs.declared.output.Output.{Output}
-use Rattle.xp_step.specs.Acts.{Acts, Answers, CarriesAs, Confirms, Requests, outputs_of_cancel, closed, outputs_to_both}
+use Rattle.xp_step.specs.Acts.{Acts, Answers, CarriesAs, Confirms, Requests, closed, outputs_to_both}
 use Rattle.xp_step.specs.RelayedPackets.{RelayedPacket, relayed_by, turn_of_relayed}
 use Rattle.xp_machine.specs.CallEnds.{line_at_end}
-use Rattle.xp_machine.specs.Changes.{all_changed}
 use Rattle.xp_machine.specs.Channel.{State, Off, Ready, channel_of, is_off}
 use Rattle.xp_machine.specs.Coupling.{AreCoupled, IsEnd}
-use Rattle.xp_step.specs.Effects.{effects_of}
 use Rattle.xp_step.specs.Outcomes.{taken_by}
 use Rattle.xp_step.specs.Run.{Run}
-use Rattle.xp_step.specs.Segments.{is_past_limit}
 use Rattle.xp_step.specs.StepContext.{StepContext, step_context}
 use Rattle.xp_step.specs.Step.{Step}
-use Rattle.xp_step.specs.Table.{CallAccepted, CallRequest, ClearRequest, accepted_in, action_at, action_in, clear_in, packet_in, request_in}
-use Rattle.xp_step.specs.EventOutputs.{EventOutputs, clear_indication, no_outputs, outputs_of, send_far, send_on}
+use Rattle.xp_step.specs.Table.{CallAccepted, CallRequest, ClearRequest, action_at, action_in, packet_in}
+use Rattle.xp_step.specs.EventOutputs.{EventOutputs, no_outputs, outputs_of, send_far, send_on}
 use Rattle.xp_machine.specs.World.{Call, World, call_on, far_end, line_at, state_at}
 use Rattle.xp_step.proofs.RelayedPackets.{of_carried}
 use Rattle.xp_core.proofs.Idle.{taken_ready}
@@ -77,8 +72,7 @@ module _ {A : Type 0} (at : StepContext A) where
 
   untaken : (outcome : Outcome) (carried own far : List (Output A)) (told : EventOutputs A) → taken_by outcome ≡ None
       → told ≡ record { carried = carried; own = own; far = far; taken = [] } → AreTo outcome carried → AreTo outcome own → AreTo outcome far → Goes outcome told
-  untaken outcome carried own far told none is of_carried of_own of_far =
-      subst (Goes outcome) (sym is) (record { carried = of_carried; own = of_own; far = of_far; taken = tt; ready = λ called taken. absurd (cc) })
+  untaken outcome carried own far told none is of_carried of_own of_far = grind (arith, of_carried)
 
   to_far : (outcome : Outcome) (found : Option (ℕ × Call)) → found_here ≡ found → (packet : Packet A) → AreTo outcome (send_far at.world at.line found packet)
   to_far outcome None on packet = tt
@@ -100,45 +94,20 @@ module _ {A : Type 0} (at : StepContext A) where
 
   requests_go : (far : List (Output A)) (asked : Option (CallRequest A)) (outcome : Outcome) (told : EventOutputs A) → AreTo outcome far
       → Requests at.force at.world at.line far asked outcome told → Goes outcome told
-  requests_go far None outcome told of_far is = none_go outcome told (ap taken_by is.0) is.1
-  requests_go far (Some request) (Put called setup) told of_far is = subst (Goes (Put called setup)) (sym is.told_is) (record {
-    carried = tt;
-    own = tt;
-    far = of_far;
-    taken = (inr (inr (inl refl)), tt);
-    ready = λ line taken.
-        let same : called ≡ line = cc in
-        ap (state_at at.world) (sym same ∙ is.called_is) ∙ (taken_ready at.force at.world at.line request.block is.ring is.decided).ready;
-  })
-  requests_go far (Some request) (Refused why) told of_far is = untaken (Refused why) [] _ far told refl is.told_is tt (inl refl, tt) of_far
-  requests_go far (Some request) outcome told of_far is = absurd is
+  requests_go far asked outcome told of_far is = grind (arith, none_go, taken_ready, untaken)
 
   confirms_go : (clear : Option (ClearRequest A)) (found : Option (ℕ × Call)) (outcome : Outcome) (told : EventOutputs A) → found_here ≡ found
       → Confirms at clear found outcome told → Goes outcome told
-  confirms_go None found outcome told on is = none_go outcome told (ap taken_by is.0) is.1
-  confirms_go (Some clear) None outcome told on is = untaken outcome [] _ [] told (ap taken_by is.0) is.1 tt (inl refl, tt) tt
-  confirms_go (Some clear) (Some found) outcome told on is =
-      untaken outcome [] _ _ told (ap taken_by is.plain) is.told_is tt (inl refl, tt) (to_far outcome (Some found) on is.packet)
+  confirms_go clear found outcome told one is = grind (arith, none_go, to_far, untaken)
 
   module _ (what : What A) (coupled : AreCoupled at.tables at.world) where
     -- an end of the line's call
     to_end : (outcome : Outcome) (found : ℕ × Call) → found_here ≡ Some found → (line : ℕ) → IsEnd found.1 line → IsOne outcome line
-    to_end outcome found on line end =
-        let shown = shown_on at.world at.line found on in
-        elim (pair found.1 at.line line (coupled.held found.0 found.1 shown.1).two (end_of at.tables at.world coupled at.line found.0 found.1 shown.0 shown.1) end) [
-          | inl is ↦ inl is
-          | inr is ↦ inr (inl (is ∙ sym (ap (far_from at.line) on)))
-        ]
+    to_end outcome found on line end = grind (arith, end_of, pair, shown_on)
 
     answers_go : (accepted : Option (CallAccepted A)) (found : Option (ℕ × Call)) (outcome : Outcome) (told : EventOutputs A) → found_here ≡ found
         → Answers at accepted found outcome told → Goes outcome told
-    answers_go (Some answer) (Some found) (Connected agreement) told on is =
-        untaken (Connected agreement) [] [] _ told refl is.told_is tt tt (to_end (Connected agreement) found on found.1.caller (inl refl), tt)
-    answers_go (Some answer) (Some found) (Declined diagnostic) told on is =
-        both_go (Declined diagnostic) LOCAL_PROCEDURE_ERROR REMOTE_PROCEDURE_ERROR diagnostic told refl is.told_is
-    answers_go (Some answer) (Some found) outcome told on is = absurd is
-    answers_go (Some answer) None outcome told on is = none_go outcome told (ap taken_by is.0) is.1
-    answers_go None found outcome told on is = none_go outcome told (ap taken_by is.0) is.1
+    answers_go accepted found outcome told one is = grind (arith, both_go, none_go, to_end, untaken)
 
     carries_go : (carried : Option (RelayedPacket A)) → relayed_by at.line found_here (packet_in what) ≡ carried → (past : Bool) (outcome : Outcome) (told : EventOutputs A)
         → CarriesAs at carried past outcome told → Goes outcome told
@@ -153,29 +122,15 @@ module _ {A : Type 0} (at : StepContext A) where
         to_side Called = to_end outcome (carried.number, carried.call) (of_carried at.line found_here (packet_in what) carried by).on carried.call.called (inr refl)
 
     pub goes : (action : Action) (outcome : Outcome) (told : EventOutputs A) → Acts at what action outcome told → Goes outcome told
-    goes Fall outcome told acts = untaken outcome [] _ _ told (ap taken_by acts.0) acts.1 tt (closes outcome what) (to_far outcome found_here refl _)
-    goes NewCall outcome told acts = requests_go [] (request_in what) outcome told tt acts
-    goes Collision outcome told acts =
-        requests_go (outputs_of_cancel at.world at.line) (request_in what) outcome told (to_far outcome found_here refl (clear_indication NUMBER_BUSY CALL_COLLISION)) acts
-    goes Answer outcome told acts = answers_go (accepted_in what) found_here outcome told refl acts
-    goes Confirm outcome told acts = confirms_go (clear_in what) found_here outcome told refl acts
-    goes (Error diagnostic) outcome told acts = both_go outcome LOCAL_PROCEDURE_ERROR REMOTE_PROCEDURE_ERROR diagnostic told (ap taken_by acts.0) acts.1
-    goes Relayed outcome told acts =
-        let carried = relayed_by at.line found_here (packet_in what) in
-        carries_go carried refl (is_past_limit at.tables at.before carried) outcome told acts
-    goes Expired outcome told acts =
-        both_go outcome LOCAL_PROCEDURE_ERROR REMOTE_PROCEDURE_ERROR TIMER_EXPIRED_FOR_INCOMING_CALL told (ap taken_by acts.0) acts.1
-    goes action outcome told acts = none_go outcome told (ap taken_by acts.0) acts.1
+    goes action outcome told acts = grind (arith, answers_go, both_go, carries_go, closes, confirms_go, none_go, requests_go, to_far, untaken)
 
 -- ---- a line out of service
 
 off_is : (state : State) → is_off state ≡ true → state ≡ Off
-off_is Off off = refl
-off_is state off = absurd (true≢false (sym off))
+off_is state off = grind arith
 
 off_frame : {A : Type 0} (packet : Packet A) → cell channels.Off (packet_kind packet) ≡ Nothing
-off_frame (packets.Call d block) = refl
-off_frame packet = refl
+off_frame packet = grind arith
 
 -- only an Up does something there
 at_off : {A : Type 0} (what : What A) → ((is_up what ≡ true) × (action_in channels.Off what ≡ Rise)) ⊎ (action_in channels.Off what ≡ Nothing)
@@ -242,15 +197,11 @@ module _ {A : Type 0} (tables : Tables) (before : List (Entry A)) (world : World
       ])
 
   taken_on : (taken : Option ℕ) → taken_by entry.outcome ≡ taken → (l : ℕ) → l ≢ line → l ≡ unwrap_or taken line → IsOn world l
-  taken_on None took l apart is = absurd (apart is)
-  taken_on (Some called) took l apart is = ap is_off (goes_here.ready l (took ∙ ap Some (sym is)))
+  taken_on taken took l apart is = grind (arith, goes_here)
 
   -- the others of the three are in service
   three_on : (l : ℕ) → l ≢ line → Among three l → IsOn world l
-  three_on l apart (inl is) = absurd (apart is)
-  three_on l apart (inr (inl is)) = far_on (call_on world line) refl l apart is
-  three_on l apart (inr (inr (inl is))) = taken_on (taken_by entry.outcome) refl l apart is
-  three_on l apart (inr (inr (inr none))) = absurd none
+  three_on l apart one = grind (arith, far_on, taken_on)
 
   -- of a line out of service
   module _ (off : is_off (state_at world line) ≡ true) where
@@ -258,40 +209,19 @@ module _ {A : Type 0} (tables : Tables) (before : List (Entry A)) (world : World
     action_is then is = ap (λ s. action_in (channel_of s) entry.event.what) (off_is (state_at world line) off) ∙ is
 
     silent : step.told ≡ no_outputs
-    silent =
-        let P : Action → Type 0 = λ a. Acts here entry.event.what a entry.outcome step.told in
-        elim (at_off entry.event.what) [
-          | inl up ↦ (subst P (action_is Rise up.1) step.acts).1
-          | inr nothing ↦ (subst P (action_is Nothing nothing) step.acts).1
-        ]
+    silent = grind (arith, action_is, at_off)
 
     rises_itself : IsOn next line → is_up entry.event.what ≡ true
-    rises_itself on = elim (at_off entry.event.what) [
-      | inl up ↦ up.0
-      | inr nothing ↦
-          let same : next ≡ world = step.leads ∙ ap (λ a. all_changed (effects_of here entry.event.what a entry.outcome) world) (action_is Nothing nothing) in
-          absurd (true≢false (sym off ∙ ap (λ w. is_off (state_at w line)) (sym same) ∙ on))
-    ]
+    rises_itself on = grind (arith, action_is, at_off)
 
   -- a line that something is put out to is in service
   pub served : (l : ℕ) → 0 < length (to_line l entry.outputs) → is_off (state_at world l) ≡ false
-  served l some = elim (cases_eq l line) [
-    | inl same ↦ elim (cases_Bool (is_off (state_at world line))) [
-      | inl off ↦
-          let none : length (to_line l entry.outputs) ≡ 0 = ap (λ os. length (to_line l os)) (step.outputs ∙ ap outputs_of (silent off)) in
-          absurd (omega (arith, some, none))
-      | inr on ↦ ap (λ x. is_off (state_at world x)) same ∙ on
-    ]
-    | inr other ↦ three_on l other (goes_to l some)
-  ]
+  served l some = grind (arith, cases_Bool, cases_eq, goes_to, silent, three_on)
 
   -- no line comes into service but by an Up of its own
   pub rises : (l : ℕ) → is_off (state_at next l) ≡ false → (is_off (state_at world l) ≡ false) ⊎ ((is_up entry.event.what ≡ true) × (l ≡ line))
   rises l on = elim (cases_eq l line) [
-    | inl same ↦ elim (cases_Bool (is_off (state_at world line))) [
-      | inl off ↦ inr (rises_itself off (ap (λ x. is_off (state_at next x)) (sym same) ∙ on), same)
-      | inr was ↦ inl (ap (λ x. is_off (state_at world x)) same ∙ was)
-    ]
+    | inl same ↦ grind (arith, cases_Bool, rises_itself)
     | inr other ↦ elim (among_or_not three l) [
       | inl there ↦ inl (three_on l other there)
       | inr out ↦

@@ -1,5 +1,5 @@
 -- Each change keeps lines and live calls coupled.
-use Rattle.std.proofs.Common.{◌≡◌, ◌≢◌, ℕ, ◌+◌, ◌<◌, eqb, Some, None, List, length, set, refl, ap, sym, subst, ◌∙◌, inl, inr, arith}
+use Rattle.std.proofs.Common.{rules, ◌≡◌, ◌≢◌, ℕ, ◌+◌, ◌<◌, Some, None, List, length, set, refl, ap, sym, subst, ◌∙◌, inl, inr, arith}
 use Rattle.std.proofs.lemmas.Bool.{cases_eq, cond_both}
 use Rattle.std.specs.FinMap.{insert, remove}
 use Rattle.xp_answer.specs.declared.setup.Setup.{Setup}
@@ -92,18 +92,13 @@ module _ (tables : Tables) (world : World) (coupled : AreCoupled tables world) (
     held = coupled.held number call in_it.live
 
     pub line_within : line < length world.lines
-    line_within = elim in_it.end [
-      | inl is ↦ omega (arith, lines, held.caller, is)
-      | inr is ↦ omega (arith, lines, held.called, is)
-    ]
+    line_within = grind (arith, held)
 
     pub far_within : far_end call line < length world.lines
-    far_within = cond_both (eqb call.caller line) call.called call.caller (λ l. l < length world.lines)
-        (λ first. omega (arith, lines, held.called)) (λ second. omega (arith, lines, held.caller))
+    far_within = grind (arith, cond_both, held)
 
     pub far_shows : call_of (state_at world (far_end call line)) ≡ Some number
-    far_shows = cond_both (eqb call.caller line) call.called call.caller (λ l. call_of (state_at world l) ≡ Some number)
-        (λ first. called_shows tables world number call held) (λ second. caller_shows tables world number call held)
+    far_shows = grind (arith, called_shows, caller_shows, cond_both, held)
 
     closed_coupled : (cleared becomes : Line) → call_of cleared.state ≡ None → call_of becomes.state ≡ None
         → AreCoupled tables (record { lines = set (set world.lines (far_end call line) cleared) line becomes; calls = remove world.calls number; next = world.next })
@@ -141,37 +136,13 @@ module _ (tables : Tables) (world : World) (coupled : AreCoupled tables world) (
 
     -- the calls that there were go on
     goes_on : (number : ℕ) (other : Call) → IsHeld tables world number other → IsHeld tables put number other
-    goes_on number other was = held_still tables world number other was put (λ line shows. elim (change line) [
-      | late is now ↦ absurd (shows_none world line called number is shows two.second.none)
-      | early is now ↦ absurd (shows_none world line caller number is shows two.one.none)
-      | never not_caller not_called now ↦ ap (λ k. k.state) now
-    ])
+    goes_on number other was = grind (arith, change, held_still, shows_none)
 
     call_held : IsHeld tables put world.next call
-    call_held = record {
-      caller = omega (arith, lines, two.one.within);
-      called = omega (arith, lines, two.second.within);
-      two = two.differ;
-      stage = inl (
-        elim (change caller) [
-          | late is now ↦ absurd (two.differ is)
-          | early is now ↦ ap (λ k. k.state) now
-          | never not_caller not_called now ↦ absurd (not_caller refl)
-        ],
-        elim (change called) [
-          | late is now ↦ ap (λ k. k.state) now
-          | early is now ↦ absurd (two.differ (sym is))
-          | never not_caller not_called now ↦ absurd (not_called refl)
-        ],
-        refl,
-      );
-    }
+    call_held = grind (arith, change)
 
     call_found : (number : ℕ) → Some world.next ≡ Some number → call_numbered put number ≡ Some call
-    call_found number is =
-        let same : world.next ≡ number = cc in
-        let P : ℕ → Type 0 = λ n. call_numbered put n ≡ Some call in
-        subst P same (get_new world.calls world.next call)
+    call_found number is = grind (arith, get_new)
 
     put_coupled : AreCoupled tables put
     put_coupled = record {
@@ -212,42 +183,21 @@ module _ (tables : Tables) (world : World) (coupled : AreCoupled tables world) (
     was = coupled.held number call live
 
     accepts : (line : ℕ) → Twice world.lines call.called (talking call.called) call.caller (talking call.caller) line
-    accepts line = twice world.lines call.called (talking call.called) call.caller (talking call.caller) line
-        (omega (arith, lines, was.called)) (omega (arith, lines, was.caller))
+    accepts line = grind (arith, twice, was)
 
     -- each line shows the call that it showed
     showed : (line n : ℕ) → call_of (state_at accepted line) ≡ Some n → call_of (state_at world line) ≡ Some n
-    showed line n shows = elim (accepts line) [
-      | late is now ↦ ap (λ l. call_of (state_at world l)) is ∙ caller_shows tables world number call was ∙ sym (ap (λ k. call_of k.state) now) ∙ shows
-      | early is now ↦ ap (λ l. call_of (state_at world l)) is ∙ called_shows tables world number call was ∙ sym (ap (λ k. call_of k.state) now) ∙ shows
-      | never not_called not_caller now ↦ sym (ap (λ k. call_of k.state) now) ∙ shows
-    ]
+    showed line n shows = grind (arith, accepts, called_shows, caller_shows, was)
 
     talks : (line : ℕ) → call_of (state_at world line) ≡ Some number → state_at accepted line ≡ Talking number
-    talks line shows = elim (accepts line) [
-      | late is now ↦ ap (λ k. k.state) now
-      | early is now ↦ ap (λ k. k.state) now
-      | never not_called not_caller now ↦ elim (end_of tables world coupled line number call shows live) [
-        | inl caller ↦ absurd (not_caller caller)
-        | inr called ↦ absurd (not_called called)
-      ]
-    ]
+    talks line shows = grind (arith, accepts, end_of)
 
     agreed_held : IsHeld tables accepted number agreed
-    agreed_held = record {
-      caller = was.caller;
-      called = was.called;
-      two = was.two;
-      stage = inr (talks call.caller (caller_shows tables world number call was), talks call.called (called_shows tables world number call was), refl);
-    }
+    agreed_held = grind (arith, called_shows, caller_shows, talks, was)
 
     -- the lines of a call of another number stay as they were
     holds : (n : ℕ) (other : Call) → n ≢ number → IsHeld tables world n other → IsHeld tables accepted n other
-    holds n other differs old = held_still tables world n other old accepted (λ line shows. elim (accepts line) [
-      | late is now ↦ absurd (differs (sym (same_number world line call.caller number n is shows (caller_shows tables world number call was))))
-      | early is now ↦ absurd (differs (sym (same_number world line call.called number n is shows (called_shows tables world number call was))))
-      | never not_called not_caller now ↦ ap (λ k. k.state) now
-    ])
+    holds n other differs old = grind (arith, accepts, called_shows, caller_shows, held_still, same_number, was)
 
     accepted_coupled : AreCoupled tables accepted
     accepted_coupled = record {
@@ -275,13 +225,8 @@ module _ (tables : Tables) (world : World) (coupled : AreCoupled tables world) (
 pub changed_coupled : (tables : Tables) (world : World) (change : Change) → AreCoupled tables world → length world.lines ≡ line_count tables
     → call_numbered world world.next ≡ None → CanBe world change → AreCoupled tables (changed change world)
 changed_coupled tables world (Rises line) coupled lines fresh can = quiet_coupled tables world coupled lines line _ world.next can refl
-changed_coupled tables world (Leaves line way) coupled lines fresh can =
-    quiet_coupled tables world coupled lines line _ world.next can (left_out tables world coupled lines way)
-changed_coupled tables world (Begins line identifier called dialled setup requested) coupled lines fresh can =
-    put_coupled tables world coupled lines line called identifier dialled setup requested can fresh
-changed_coupled tables world (IsRefused line identifier dialled why) coupled lines fresh can =
-    quiet_coupled tables world coupled lines line _ (world.next + 1) can refl
-changed_coupled tables world (Connects number call agreement) coupled lines fresh can =
-    accepted_coupled tables world coupled lines number call agreement can
-changed_coupled tables world (Ends number call line way cause diagnostic) coupled lines fresh can =
-    closed_coupled tables world coupled lines number call line can _ _ refl (left_out tables world coupled lines way)
+changed_coupled tables world (Leaves line way) coupled lines fresh can = grind (arith, left_out, quiet_coupled)
+changed_coupled tables world (Begins line identifier called dialled setup requested) coupled lines fresh can = search (rules, put_coupled)
+changed_coupled tables world (IsRefused line identifier dialled why) coupled lines fresh can = grind (arith, quiet_coupled)
+changed_coupled tables world (Connects number call agreement) coupled lines fresh can = search (rules, accepted_coupled)
+changed_coupled tables world (Ends number call line way cause diagnostic) coupled lines fresh can = grind (arith, closed_coupled, left_out)

@@ -1,10 +1,10 @@
 -- What the machine keeps, as it changes.
-use Rattle.std.proofs.Common.{◌≡◌, ◌≢◌, ℕ, zero, suc, ◌+◌, ◌<◌, ◌^◌, eqb, Option, Some, None, List, [], ◌∷◌, filter_map, length, map, option_map, get_or, set, refl, ap, sym, subst, ◌∙◌, ◌⊎◌, inl, inr, get_or-set_other}
+use Rattle.std.proofs.Common.{arith, ◌≡◌, ◌≢◌, ℕ, zero, suc, ◌+◌, ◌<◌, ◌^◌, eqb, Option, Some, None, List, [], ◌∷◌, map, option_map, get_or, set, refl, ap, sym, subst, ◌∙◌, ◌⊎◌, inl, inr, get_or-set_other}
 use Rattle.std.specs.Prelude.{replicate, slice_set}
 use Rattle.std.proofs.lemmas.Bool.{cases_eq, cases_lt, cond-false, cond-true, eq-eqb, ne_eqb}
 use Rattle.std.proofs.lemmas.Grind.{get_or-set_at}
 use Rattle.std.proofs.lemmas.List.{get_or_past, get_or-replicate, length-replicate, map-set, set_past}
-use Rattle.std.specs.FinMap.{empty, from_entries, insert}
+use Rattle.std.specs.FinMap.{insert}
 use Rattle.std.specs.FinMap as finite
 use Rattle.slab.specs.Slab.{Slab, Updates, get}
 use Rattle.xp_machine.specs.declared.call.CallKey.{CallKey}
@@ -15,12 +15,12 @@ use Rattle.xp_machine.specs.declared.channel.ChannelState.TheVariants as kept
 use Rattle.xp_machine.specs.declared.channel.LogicalChannel.{LogicalChannel}
 use Rattle.xp_machine.specs.declared.agreement.Agreement.{Agreement}
 use Rattle.xp_machine.specs.Changes.{NoCallState, IsFree, state_after}
-use Rattle.xp_machine.specs.Channel.{State, Ready, Ringing, Talking, Waiting, Cleared, INITIAL_IDENTIFIER, call_of}
+use Rattle.xp_machine.specs.Channel.{State, Ringing, Talking, Waiting, Cleared, INITIAL_IDENTIFIER, call_of}
 use Rattle.xp_machine.specs.Coupling.{IsEnd}
 use Rattle.xp_machine.specs.steps.StoredState.{AreKeyed, IsAccepted, IsEnded, IsKeptUnder, channel_at, lines_left, lines_put, off_channel, risen, turned_down}
 use Rattle.xp_machine.specs.StoredState.{call_of_stored, calls_of, entry_of, key_of, line_of, state_of, stored_world}
 use Rattle.xp_machine.specs.AppliedChange.{applied, connected, freed_if_any, left}
-use Rattle.xp_machine.specs.World.{Call, Line, World, call_numbered, call_on, far_end, line_at, moved, moved_as, numbered, off_line, opening, state_at}
+use Rattle.xp_machine.specs.World.{Call, World, call_numbered, call_on, far_end, line_at, moved, moved_as, numbered, off_line, opening, state_at}
 use Rattle.xp_machine.proofs.Keyed.{added, added_one_each, changed, changed_one_each, found, removed, removed_one_each}
 use Rattle.xp_machine.proofs.Lines.{get_or-set}
 use Rattle.xp_machine.proofs.Maps.{get_gone, get_left}
@@ -38,25 +38,14 @@ map_at f (x ∷ xs) (suc n) d = map_at f xs n d
 -- before
 set_over : {X : Type 0} (P : X → Type 0) (items : List X) (at : ℕ) (item : X) (q : ℕ) (d : X) → (q ≡ at → P item) → P d → (q ≢ at → P (get_or items q d))
     → P (get_or (set items at item) q d)
-set_over P items at item q d new none old = elim (cases_eq q at) [
-  | inl same ↦ elim (cases_lt at (length items)) [
-    | inl within ↦ subst P (sym (get_or-set_at items at q item d same within)) (new same)
-    | inr past ↦
-        let gone : get_or (set items at item) q d ≡ d = ap (λ xs. get_or xs q d) (set_past items at item past) ∙ ap (λ n. get_or items n d) same ∙ get_or_past items at d past in
-        subst P (sym gone) none
-  ]
-  | inr other ↦ subst P (sym (get_or-set_other items at q item d other)) (old other)
-]
+set_over P items at item q d new none old = grind (arith, cases_eq, cases_lt, get_or-set_at, get_or-set_other, get_or_past, set_past)
 
 -- the two lines of a call
 ends : (call : Call) (line other : ℕ) → IsEnd call line → IsEnd call other → (other ≡ line) ⊎ (other ≡ far_end call line)
 ends call line other (inl caller) (inl is) = inl (is ∙ sym caller)
 ends call line other (inl caller) (inr is) = inr (is ∙ sym (cond-true (eqb call.caller line) call.called call.caller (eq-eqb call.caller line (sym caller))))
 ends call line other (inr called) (inr is) = inl (is ∙ sym called)
-ends call line other (inr called) (inl is) = elim (cases_eq call.caller line) [
-  | inl same ↦ inl (is ∙ same)
-  | inr differs ↦ inr (is ∙ sym (cond-false (eqb call.caller line) call.called call.caller (ne_eqb call.caller line differs)))
-]
+ends call line other (inr called) (inl is) = grind (arith, cases_eq, cond-false, ne_eqb)
 
 number_of : (state : ChannelState) → call_of (state_of state) ≡ option_map (λ call. call.number) (key_of state)
 number_of kept.Off = refl
@@ -101,26 +90,10 @@ there_kept lines calls line shown keyed key = let P : Option CallKey → Type 0 
 
 pub new_kept : (lines : List LogicalChannel) (calls : Slab LiveCall) (count : ℕ) → lines ≡ replicate count off_channel → calls.slots ≡ []
     → stored_world lines calls 1 ≡ opening count
-new_kept lines calls count all none =
-    let built : List Line → World = λ ls. record { lines = ls; calls = empty; next = 1 } in
-    ap (λ ls. stored_world ls calls 1) all
-    ∙ ap (λ slots. record (stored_world (replicate count off_channel) calls 1) { calls = from_entries (map entry_of (filter_map (λ slot. slot) slots)) }) none
-    ∙ ap built (map-replicate line_of off_channel count)
+new_kept lines calls count all none = grind (arith, map-replicate)
 
 pub new_keyed : (lines : List LogicalChannel) (calls : Slab LiveCall) (count : ℕ) → lines ≡ replicate count off_channel → calls.slots ≡ [] → AreKeyed lines calls
-new_keyed lines calls count all none = record {
-  keys = λ line.
-      let P : LogicalChannel → Type 0 = λ channel. IsKeptUnder calls line (key_of channel.state) in
-      let Q : List LogicalChannel → Type 0 = λ ls. P (channel_at ls line) in
-      subst Q (sym all) (subst P (sym (off line)) tt);
-  one_each = λ key other x y is is' same. let nothing : get calls key ≡ None = ap (λ slots. get_or slots key None) none in absurd (cc);
-}
-  where
-    off : (line : ℕ) → channel_at (replicate count off_channel) line ≡ off_channel
-    off line = elim (cases_lt line count) [
-      | inl within ↦ get_or-replicate count line off_channel off_channel within
-      | inr past ↦ get_or_past (replicate count off_channel) line off_channel (let long = length-replicate count off_channel in rw long past)
-    ]
+new_keyed lines calls count all none = grind (arith, cases_lt, get_or-replicate, get_or_past, length-replicate)
 
 -- no key
 kept_none : (calls : Slab LiveCall) (line : ℕ) (key : Option CallKey) → key ≡ None → IsKeptUnder calls line key
@@ -149,25 +122,18 @@ module _ (lines : List LogicalChannel) (calls : Slab LiveCall) (next : ℕ) wher
   set_kept line becomes = ap (λ ls. record here { lines = ls }) (map-set line_of lines line becomes)
 
   pub risen_kept : (line : ℕ) → stored_world (set lines line (risen (channel_at lines line))) calls next ≡ applied (changes.Rise line) here
-  risen_kept line =
-      set_kept line (risen (channel_at lines line))
-      ∙ ap (λ l. record here { lines = slice_set here.lines line (record { state = Ready; identifier = INITIAL_IDENTIFIER; connection = l.connection + 1 }) })
-      (sym (line_kept lines line))
+  risen_kept line = grind (arith, line_kept, set_kept)
 
   pub moved_as_kept : (line identifier : ℕ) (state : ChannelState) (others : List LogicalChannel)
       → map line_of (set others line (record (channel_at lines line) { state = state; identifier = identifier })) ≡ moved_as here line identifier (state_of state) (map line_of others)
-  moved_as_kept line identifier state others =
-      map-set line_of others line _
-      ∙ ap (λ l. set (map line_of others) line (record l { state = state_of state; identifier = identifier })) (sym (line_kept lines line))
+  moved_as_kept line identifier state others = grind (arith, line_kept, map-set)
 
   pub refused_kept : (line identifier : ℕ) → stored_world (set lines line (turned_down (channel_at lines line) identifier)) calls (next + 1) ≡ applied (changes.Refuse line identifier) here
   refused_kept line identifier = ap (λ ls. record here { lines = ls; next = next + 1 }) (moved_as_kept line identifier kept.Cleared lines)
 
   moved_kept : (line : ℕ) (state : ChannelState) (others : List LogicalChannel)
       → map line_of (set others line (record (channel_at lines line) { state = state })) ≡ moved here line (state_of state) (map line_of others)
-  moved_kept line state others =
-      map-set line_of others line _
-      ∙ ap (λ l. set (map line_of others) line (record l { state = state_of state })) (sym (line_kept lines line))
+  moved_kept line state others = grind (arith, line_kept, map-set)
 
   pub free_kept : (line : ℕ) → stored_world (set lines line (record (channel_at lines line) { state = kept.Ready })) calls next ≡ applied (changes.Free line) here
   free_kept line = ap (λ ls. record here { lines = ls }) (moved_kept line kept.Ready lines)
@@ -185,10 +151,7 @@ module _ (lines : List LogicalChannel) (calls : Slab LiveCall) (next : ℕ) wher
     rings = record (channel_at lines call.called) { state = kept.Ringing both; identifier = INITIAL_IDENTIFIER }
 
     stays : (line : ℕ) → IsKeptUnder after line (key_of (channel_at lines line).state)
-    stays line = carried calls after line (key_of (channel_at lines line).state) (λ its c at end. updates.others its.key (taken its c at) ∙ at) (keyed.keys line)
-      where
-        taken : (its : CallKey) (c : LiveCall) → get calls its.key ≡ Some c → its.key ≢ key
-        taken its c at same = let none : get calls its.key ≡ None = ap (get calls) same ∙ free in absurd (cc)
+    stays line = grind (arith, carried)
 
     pub began_keyed : AreKeyed (lines_put lines identifier call key) after
     began_keyed = record {
@@ -217,9 +180,7 @@ module _ (lines : List LogicalChannel) (calls : Slab LiveCall) (next : ℕ) wher
   module _ (line : ℕ) (none : key_of (channel_at lines line).state ≡ None) where
     pub out_kept : (state : ChannelState) (way : NoCallState) → state_of state ≡ state_after way
         → stored_world (set lines line (record (channel_at lines line) { state = state })) calls next ≡ left line way (call_on here line) here
-    out_kept state way is =
-        ap (λ ls. record here { lines = ls }) (moved_kept line state lines ∙ ap (λ s. moved here line s here.lines) is)
-        ∙ ap (λ found. left line way found here) (sym (none_kept lines calls next line none))
+    out_kept state way is = grind (arith, found, moved_kept, none_kept)
 
     pub unconnected_kept : (agreement : Agreement) → here ≡ connected (call_on here line) agreement here
     unconnected_kept agreement = ap (λ found. connected found agreement here) (sym (none_kept lines calls next line none))
@@ -230,11 +191,7 @@ module _ (lines : List LogicalChannel) (calls : Slab LiveCall) (next : ℕ) wher
     its_call call there = sym (found_kept lines calls next line shown keyed key) ∙ ap (option_map entry_of) there
 
     its_line : (call : LiveCall) → get calls shown.key ≡ Some call → IsEnd (call_of_stored call) line
-    its_line call there =
-        let it = there_kept lines calls line shown keyed key in
-        let one : it.0 ≡ call = let here : get calls shown.key ≡ Some it.0 = it.1 in cc in
-        let P : LiveCall → Type 0 = λ c. IsEnd (call_of_stored c) line in
-        subst P one it.3
+    its_line call there = grind (arith, there_kept)
 
     -- its call ends: it is taken out, and no line has its key any more
     module _ (state : ChannelState) (after : List LogicalChannel) (rest : Slab LiveCall) (ended : IsEnded lines calls shown.key line state after rest)
@@ -243,18 +200,7 @@ module _ (lines : List LogicalChannel) (calls : Slab LiveCall) (next : ℕ) wher
       far = far_end (call_of_stored ended.call) line
 
       goes_on : (other : ℕ) → other ≢ line → other ≢ far → IsKeptUnder rest other (key_of (channel_at lines other).state)
-      goes_on other not_line not_far =
-          carried calls rest other (key_of (channel_at lines other).state) (λ its c at end. ended.updates.others its.key (another its c at end) ∙ at) (keyed.keys other)
-        where
-          another : (its : CallKey) (c : LiveCall) → get calls its.key ≡ Some c → IsEnd (call_of_stored c) other → its.key ≢ shown.key
-          another its c at end same =
-              let there : get calls its.key ≡ Some ended.call = ap (get calls) same ∙ ended.there in
-              let one : c ≡ ended.call = cc in
-              let P : LiveCall → Type 0 = λ v. IsEnd (call_of_stored v) other in
-              elim (ends (call_of_stored ended.call) line other (its_line ended.call ended.there) (subst P one end)) [
-                | inl near ↦ not_line near
-                | inr there ↦ not_far there
-              ]
+      goes_on other not_line not_far = grind (arith, carried, ends, its_line)
 
       left_keyed : AreKeyed (lines_left lines line far state) rest
       left_keyed = record {
@@ -293,15 +239,7 @@ module _ (lines : List LogicalChannel) (calls : Slab LiveCall) (next : ℕ) wher
 
       still : (l : ℕ) (its : Option CallKey) → IsKeptUnder calls l its → IsKeptUnder rest l its
       still l None it = tt
-      still l (Some its) it = elim (cases_eq its.key shown.key) [
-        | inl is ↦
-            let there : get calls shown.key ≡ Some it.0 = ap (get calls) (sym is) ∙ it.1 in
-            let was : get calls shown.key ≡ Some accepted.call = accepted.there in
-            let one : it.0 ≡ accepted.call = cc in
-            let P : LiveCall → Type 0 = λ c. IsEnd (call_of_stored c) l in
-            (becomes, ap (get rest) is ∙ accepted.updates.changed, ap (λ c. c.number) (sym one) ∙ it.2, subst P one it.3)
-        | inr other ↦ (it.0, accepted.updates.others its.key other ∙ it.1, it.2, it.3)
-      ]
+      still l (Some its) it = grind (arith, cases_eq, changed)
 
       pub accepted_keyed : AreKeyed after rest
       accepted_keyed =
@@ -335,9 +273,7 @@ module _ (lines : List LogicalChannel) (calls : Slab LiveCall) (next : ℕ) wher
 
 -- room for more calls changes none
 pub roomy_keyed : (lines : List LogicalChannel) (calls roomy : Slab LiveCall) → roomy ≡ record calls { capacity = roomy.capacity } → AreKeyed lines calls → AreKeyed lines roomy
-roomy_keyed lines calls roomy rest keyed =
-    let P : Slab LiveCall → Type 0 = λ s. AreKeyed lines s in
-    subst P (sym rest) (record { keys = keyed.keys; one_each = keyed.one_each })
+roomy_keyed lines calls roomy rest keyed = grind arith
 
 pub roomy_kept : (lines : List LogicalChannel) (calls roomy : Slab LiveCall) (next : ℕ) → roomy ≡ record calls { capacity = roomy.capacity }
     → stored_world lines roomy next ≡ stored_world lines calls next
@@ -373,14 +309,7 @@ module _ (lines : List LogicalChannel) (calls : Slab LiveCall) (world : World) (
 pub fresh_freed : (world : World) (cancelled : Option ℕ) → call_numbered world world.next ≡ None
     → call_numbered (freed_if_any cancelled world) (freed_if_any cancelled world).next ≡ None
 fresh_freed world None fresh = fresh
-fresh_freed world (Some line) fresh = fresh_left (call_on world line)
-  where
-    fresh_left : (found : Option (ℕ × Call)) → call_numbered (left line IsFree found world) (left line IsFree found world).next ≡ None
-    fresh_left None = fresh
-    fresh_left (Some found) = elim (cases_eq world.next found.0) [
-      | inl same ↦ get_gone world.calls found.0 world.next same
-      | inr other ↦ get_left world.calls found.0 world.next other ∙ fresh
-    ]
+fresh_freed world (Some line) fresh = grind (arith, cases_eq, found, get_gone, get_left)
 
 abbrev pub HasConnections : World → Type 0
 HasConnections world = (line : ℕ) → (line_at world line).connection + 1 < 2 ^ 64

@@ -1,5 +1,5 @@
 -- A slab of values that each have a number, as the map by number that it is seen as.
-use Rattle.std.proofs.Common.{◌≡◌, ◌≢◌, ℕ, zero, suc, Bool, true, false, cond, Option, Some, None, List, [], ◌∷◌, map, filter_map, get_or, refl, ap, sym, subst, ◌∙◌, inl, inr}
+use Rattle.std.proofs.Common.{arith, ◌≡◌, ◌≢◌, ℕ, zero, suc, Bool, true, false, cond, Option, Some, None, List, [], ◌∷◌, map, filter_map, get_or, refl, ap, sym, subst, ◌∙◌, inl, inr}
 use Rattle.std.proofs.lemmas.Bool.{cases_eq, eq-eqb, eqb-true}
 use Rattle.std.specs.Cmp.{nat_cmp_total}
 use Rattle.std.specs.FinMap as finite
@@ -93,41 +93,16 @@ module _ {X Y : Type 0} (entry : X → ℕ × Y) where
     module _ (x : X) (updates : Updates old new key (Some x)) (free : get old key ≡ None)
         (fresh : finite.get (by_number entry old) (entry x).0 ≡ None) where
       fresh_under : (other : ℕ) (z : X) → get old other ≡ Some z → (entry z).0 ≢ (entry x).0
-      fresh_under other z is same =
-          let P : ℕ → Type 0 = λ n. finite.get (by_number entry old) n ≡ Some (entry z).1 in
-          let here : finite.get (by_number entry old) (entry x).0 ≡ Some (entry z).1 = subst P same (found old other z one is) in
-          absurd (cc)
+      fresh_under other z is same = grind (arith, found)
 
       was_under : (other : ℕ) (z : X) → (entry z).0 ≢ (entry x).0 → get new other ≡ Some z → get old other ≡ Some z
-      was_under other z differs is = elim (cases_eq other key) [
-        | inl same ↦
-            let at : get new key ≡ Some z = ap (get new) (sym same) ∙ is in
-            let now : get new key ≡ Some x = updates.changed in
-            let same_value : z ≡ x = cc in
-            absurd (differs (ap (λ v. (entry v).0) same_value))
-        | inr differs ↦ sym (updates.others other differs) ∙ is
-      ]
+      was_under other z differs is = grind (arith, cases_eq)
 
       stays_under : (other : ℕ) (z : X) → get old other ≡ Some z → get new other ≡ Some z
       stays_under other z is = updates.others other (λ same. let at : get old key ≡ Some z = ap (get old) (sym same) ∙ is in absurd (cc)) ∙ is
 
       pub added_one_each : HasOneEach entry new
-      added_one_each first second z w is is' same = elim (cases_eq first key) [
-        | inl here ↦ elim (cases_eq second key) [
-          | inl there ↦ here ∙ sym there
-          | inr other ↦ absurd (fresh_under second w (sym (updates.others second other) ∙ is') (sym same ∙ of_key first z here is))
-        ]
-        | inr other ↦ elim (cases_eq second key) [
-          | inl there ↦ absurd (fresh_under first z (sym (updates.others first other) ∙ is) (same ∙ of_key second w there is'))
-          | inr other' ↦ one first second z w (sym (updates.others first other) ∙ is) (sym (updates.others second other') ∙ is') same
-        ]
-      ]
-        where
-          of_key : (at : ℕ) (v : X) → at ≡ key → get new at ≡ Some v → (entry v).0 ≡ (entry x).0
-          of_key at v here is =
-              let now : get new key ≡ Some x = updates.changed in
-              let found : get new key ≡ Some v = ap (get new) (sym here) ∙ is in
-              let same : v ≡ x = cc in ap (λ u. (entry u).0) same
+      added_one_each first second z w is is' same = grind (arith, cases_eq, found, fresh_under)
 
       pub added : by_number entry new ≡ finite.insert (by_number entry old) (entry x).0 (entry x).1
       added = finite.same_map nat_cmp_total finite.nat_cmp-IsAntisymmetric _ _ (λ n. elim (cases_eq n (entry x).0) [
@@ -141,34 +116,18 @@ module _ {X Y : Type 0} (entry : X → ℕ × Y) where
 
     module _ (x : X) (there : get old key ≡ Some x) where
       of_it : (n : ℕ) (at : ℕ) (z : X) → (n ≢ (entry x).0) → (entry z).0 ≡ n → get old at ≡ Some z → at ≢ key
-      of_it n at z other is found same =
-          let here : get old key ≡ Some z = ap (get old) (sym same) ∙ found in
-          let value : z ≡ x = cc in other (sym is ∙ ap (λ v. (entry v).0) value)
+      of_it n at z other is found same = grind (arith, found)
 
       -- the value under a key becomes another of the same number
       module _ (next : X) (updates : Updates old new key (Some next)) (number : (entry next).0 ≡ (entry x).0) where
         was : (at : ℕ) (z : X) → get new at ≡ Some z → (v : X) × (get old at ≡ Some v) × ((entry v).0 ≡ (entry z).0)
-        was at z is = elim (cases_eq at key) [
-          | inl same ↦
-              let now : get new key ≡ Some next = updates.changed in
-              let here : get new key ≡ Some z = ap (get new) (sym same) ∙ is in
-              let value : next ≡ z = cc in
-              (x, ap (get old) same ∙ there, sym number ∙ ap (λ v. (entry v).0) value)
-          | inr other ↦ (z, sym (updates.others at other) ∙ is, refl)
-        ]
+        was at z is = grind (arith, cases_eq)
 
         pub changed_one_each : HasOneEach entry new
-        changed_one_each first second z w is is' same =
-            let a = was first z is in
-            let b = was second w is' in
-            one first second a.0 b.0 a.1 b.1 (a.2 ∙ same ∙ sym b.2)
+        changed_one_each first second z w is is' same = grind (arith, was)
 
         was_other : (n : ℕ) (at : ℕ) (z : X) → n ≢ (entry x).0 → (entry z).0 ≡ n → get new at ≡ Some z → at ≢ key
-        was_other n at z other is found same =
-            let now : get new key ≡ Some next = updates.changed in
-            let here : get new key ≡ Some z = ap (get new) (sym same) ∙ found in
-            let value : next ≡ z = cc in
-            other (sym is ∙ ap (λ v. (entry v).0) (sym value) ∙ number)
+        was_other n at z other is found same = grind (arith, found)
 
         pub changed : by_number entry new ≡ finite.insert (by_number entry old) (entry x).0 (entry next).1
         changed = finite.same_map nat_cmp_total finite.nat_cmp-IsAntisymmetric _ _ (λ n. elim (cases_eq n (entry x).0) [
@@ -187,10 +146,7 @@ module _ {X Y : Type 0} (entry : X → ℕ × Y) where
       -- the value under a key is taken out
       module _ (updates : Updates old new key None) where
         still : (at : ℕ) (z : X) → get new at ≡ Some z → (at ≢ key) × (get old at ≡ Some z)
-        still at z is =
-            let other : at ≢ key = λ same.
-            let none : get new at ≡ None = ap (get new) same ∙ updates.changed in absurd (cc) in
-            (other, sym (updates.others at other) ∙ is)
+        still at z is = grind (arith, changed)
 
         pub removed_one_each : HasOneEach entry new
         removed_one_each first second z w is is' same = one first second z w (still first z is).1 (still second w is').1 same

@@ -1,10 +1,9 @@
 -- Lines, after one or two of them came to another state.
-use Rattle.std.proofs.Common.{◌≡◌, ◌≢◌, ℕ, ◌<◌, List, length, get_or, set, sym, subst, ◌∙◌, inl, inr, arith, get_or-set_other, length-set}
+use Rattle.std.proofs.Common.{◌≡◌, ◌≢◌, ℕ, ◌<◌, List, length, get_or, set, arith, get_or-set_other, length-set}
 use Rattle.std.proofs.lemmas.Bool.{cases_eq, cases_lt}
 use Rattle.std.proofs.lemmas.Bool.Decides.{eqb_tells}
 use Rattle.std.proofs.lemmas.Grind.{get_or-set_at}
 use Rattle.std.proofs.lemmas.List.{get_or_past, get_or-replicate, length-replicate, set_past}
-use Rattle.std.specs.Prelude.{replicate}
 use Rattle.xp_machine.specs.World.{Line, line_at, off_line, opening}
 
 -- what a line is after one line was set
@@ -13,10 +12,7 @@ pub data Once (lines : List Line) (at : ℕ) (becomes : Line) (line : ℕ) : Typ
   another : line ≢ at → get_or (set lines at becomes) line off_line ≡ get_or lines line off_line → Once lines at becomes line
 
 pub once : (lines : List Line) (at : ℕ) (becomes : Line) (line : ℕ) → at < length lines → Once lines at becomes line
-once lines at becomes line within = elim (cases_eq line at) [
-  | inl is ↦ it is (get_or-set_at lines at line becomes off_line is within)
-  | inr other ↦ another other (get_or-set_other lines at line becomes off_line other)
-]
+once lines at becomes line within = grind (arith, cases_eq, get_or-set_at, get_or-set_other)
 
 -- what a line is after one line was set, and then another
 pub data Twice (lines : List Line) (first : ℕ) (x : Line) (second : ℕ) (y : Line) (line : ℕ) : Type 0 where
@@ -26,26 +22,11 @@ pub data Twice (lines : List Line) (first : ℕ) (x : Line) (second : ℕ) (y : 
 
 pub twice : (lines : List Line) (first : ℕ) (x : Line) (second : ℕ) (y : Line) (line : ℕ)
     → first < length lines → second < length lines → Twice lines first x second y line
-twice lines first x second y line within far_within = elim (once (set lines first x) second y line (omega (arith, length-set lines first x, far_within))) [
-  | it is now ↦ late is now
-  | another not_second kept ↦ elim (once lines first x line within) [
-    | it is now ↦ early is (kept ∙ now)
-    | another not_first now ↦ never not_first not_second (kept ∙ now)
-  ]
-]
+twice lines first x second y line within far_within = grind (arith, length-set, once)
 
 -- a fact of all lines holds after one is set, if it holds of the new one
 pub get_or-set : {X : Type 0} (P : X → Type 0) (items : List X) (at : ℕ) (item : X) (q : ℕ) (d : X) → P item → P (get_or items q d) → P (get_or (set items at item) q d)
-get_or-set P items at item q d new old = elim (cases_lt at (length items)) [
-  | inl within ↦ elim (eqb_tells q at) [
-    | inl same ↦ subst P (sym (get_or-set_at items at q item d same.1 within)) new
-    | inr other ↦ subst P (sym (get_or-set_other items at q item d other.1)) old
-  ]
-  | inr past ↦ let Q : List _ → Type 0 = λ xs. P (get_or xs q d) in subst Q (sym (set_past items at item past)) old
-]
+get_or-set P items at item q d new old = grind (arith, cases_lt, eqb_tells, get_or-set_at, get_or-set_other, set_past)
 
 pub line_at-opening : (count line : ℕ) → line_at (opening count) line ≡ off_line
-line_at-opening count line = elim (cases_lt line count) [
-  | inl within ↦ get_or-replicate count line off_line off_line within
-  | inr past ↦ get_or_past (replicate count off_line) line off_line (omega (arith, length-replicate count off_line))
-]
+line_at-opening count line = grind (arith, cases_lt, get_or-replicate, get_or_past, length-replicate)

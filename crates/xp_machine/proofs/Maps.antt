@@ -1,26 +1,18 @@
 -- What a map from numbers holds.
-use Rattle.std.proofs.Common.{◌≡◌, ◌≢◌, ℕ, true, false, cond, eqb, Some, None, refl, ap, sym, subst, ◌∙◌, ◌⊎◌, inl, inr}
+use Rattle.std.proofs.Common.{arith, ◌≡◌, ◌≢◌, ℕ, true, false, cond, eqb, Some, None, refl, ap, subst, ◌∙◌, ◌⊎◌}
 use Rattle.std.proofs.lemmas.Bool.{cases_eq, eq-eqb, ne_eqb}
 use Rattle.std.specs.Cmp.{nat_cmp_total, tied_itself}
-use Rattle.std.specs.FinMap.{FinMap, get, insert, remove, get-insert, get-remove, nat_cmp-IsAntisymmetric}
+use Rattle.std.specs.FinMap.{FinMap, get, insert, remove, get-insert, get-remove}
 use Rattle.std.specs.Ordering.{eq_by_cmp, is_eq, nat_cmp}
-use Rattle.std.specs.declared.cmp.Ordering.TheVariants.{Less, Equal, Greater}
 
 tied : (q k : ℕ) → q ≡ k → eq_by_cmp nat_cmp q k ≡ true
 tied q k is = let P : ℕ → Type 0 = λ n. eq_by_cmp nat_cmp q n ≡ true in subst P is (ap is_eq (tied_itself nat_cmp_total q))
 
 apart : (q k : ℕ) → q ≢ k → eq_by_cmp nat_cmp q k ≡ false
-apart q k other = elim (nat_cmp q k) as (λ r. nat_cmp q k ≡ r → is_eq r ≡ false) [
-  | Less ↦ λ is. refl
-  | Equal ↦ λ is. absurd (other (nat_cmp-IsAntisymmetric q k is))
-  | Greater ↦ λ is. refl
-] refl
+apart q k other = grind arith
 
 pub tie : (q k : ℕ) → eq_by_cmp nat_cmp q k ≡ eqb k q
-tie q k = elim (cases_eq q k) [
-  | inl is ↦ tied q k is ∙ sym (eq-eqb k q (sym is))
-  | inr other ↦ apart q k other ∙ sym (ne_eqb k q (λ is. other (sym is)))
-]
+tie q k = grind (arith, apart, cases_eq, eq-eqb, ne_eqb, tied)
 
 module _ {X : Type 0} (m : FinMap nat_cmp X) (k : ℕ) where
   pub get_new : (v : X) → get (insert m k v) k ≡ Some v
@@ -37,17 +29,8 @@ module _ {X : Type 0} (m : FinMap nat_cmp X) (k : ℕ) where
 
   -- what is found after an insertion is the new one, or was there
   pub new_or_old : (v : X) (q : ℕ) (x : X) → get (insert m k v) q ≡ Some x → ((q ≡ k) × (v ≡ x)) ⊎ ((q ≢ k) × (get m q ≡ Some x))
-  new_or_old v q x is = elim (cases_eq q k) [
-    | inl same ↦
-        let P : ℕ → Type 0 = λ n. get (insert m k v) n ≡ Some x in
-        let found : Some v ≡ Some x = sym (get_new v) ∙ subst P same is in
-        inl (same, cc)
-    | inr other ↦ inr (other, sym (get_other v q other) ∙ is)
-  ]
+  new_or_old v q x is = grind (arith, cases_eq, get_new, get_other)
 
   -- what is found after a removal was there before, under another number
   pub was_there : (q : ℕ) (x : X) → get (remove m k) q ≡ Some x → (q ≢ k) × (get m q ≡ Some x)
-  was_there q x is = elim (cases_eq q k) [
-    | inl same ↦ let none : get (remove m k) q ≡ None = get_gone q same in absurd (cc)
-    | inr other ↦ (other, sym (get_left q other) ∙ is)
-  ]
+  was_there q x is = grind (arith, cases_eq, get_gone, get_left)

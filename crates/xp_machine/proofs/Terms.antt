@@ -19,35 +19,9 @@ record BothFit (modulus : Modulus) (terms : Terms) : Type 0 where
   called : Fits modulus terms.window.from_called
 
 both_fit : (modulus : Modulus) (terms : Terms) → AreTerms modulus terms → BothFit modulus terms
-both_fit Eight terms h = record {
-  calling = record { most = omega (arith, h.window.calling_most); below = omega (arith, h.window.calling_most) };
-  called = record { most = omega (arith, h.window.called_most); below = omega (arith, h.window.called_most) };
-}
-both_fit Long terms h = record {
-  calling = record { most = omega (arith, h.window.calling_most); below = omega (arith, h.window.calling_most) };
-  called = record { most = omega (arith, h.window.called_most); below = omega (arith, h.window.called_most) };
-}
+both_fit Eight terms h = grind arith
+both_fit Long terms h = grind arith
 
 pub terms_within : (agreement : Agreement) (caller called : Modulus) → AreTerms caller agreement.terms → AreTerms called agreement.terms
     → IsWithinTerms (terms_of agreement caller called)
-terms_within agreement caller called by_caller by_called =
-    let at_caller = both_fit caller agreement.terms by_caller in
-    let at_called = both_fit called agreement.terms by_called in
-    record {
-      from_caller = record {
-        least_size = by_caller.packet.calling_least;
-        most_size = by_caller.packet.calling_most;
-        least_window = by_caller.window.calling_least;
-        most_window = at_caller.calling.most;
-        sender = at_caller.calling.below;
-        receiver = at_called.calling.below;
-      };
-      from_called = record {
-        least_size = by_caller.packet.called_least;
-        most_size = by_caller.packet.called_most;
-        least_window = by_caller.window.called_least;
-        most_window = at_caller.called.most;
-        sender = at_called.called.below;
-        receiver = at_caller.called.below;
-      };
-    }
+terms_within agreement caller called by_caller by_called = grind (arith, both_fit)

@@ -1,6 +1,6 @@
 //! What is shown of live calls.
 
-use crate::lines::NamedLine;
+use crate::lines::{NamedLine, party_of};
 use std::alloc::{AllocError, Global};
 use xp_console::{LiveCall, Party};
 use xp_core::CallView;
@@ -56,7 +56,7 @@ fn seconds_since(connected: Option<u64>, now: u64) -> u64 {
 /// A line as a party to a call.
 pub(crate) fn party(alloc: Global, lines: &[NamedLine], line: LineNo) -> Result<Party, AllocError> {
     match lines.get(usize::from(line)) {
-        Some(line) => line.party(alloc),
+        Some(line) => party_of(alloc, &line.name, &line.address),
         None => Ok(Party {
             line: String::new(alloc),
             address: String::new(alloc),

@@ -1,6 +1,6 @@
 //! What is shown of calls that have ended.
 
-use crate::lines::NamedLine;
+use crate::lines::{NamedLine, party_of};
 use std::alloc::{AllocError, Global};
 use xp_charge::Record;
 use xp_console::{EndedCall, Party, Payer};
@@ -29,14 +29,6 @@ impl NotedParty {
             },
         }
     }
-
-    /// What is shown of it.
-    fn party(&self, alloc: Global) -> Result<Party, AllocError> {
-        Ok(Party {
-            line: String::from_str(alloc, self.line.as_str())?,
-            address: self.address.to_string(alloc)?,
-        })
-    }
 }
 
 /// A call that has ended.
@@ -63,7 +55,7 @@ impl NotedCall {
         let record = &self.record;
         Ok(EndedCall {
             number: record.number,
-            caller: self.caller.party(alloc)?,
+            caller: party_of(alloc, &self.caller.line, &self.caller.address)?,
             called: self.called_party(alloc)?,
             dialled: record.dialled.to_string(alloc)?,
             payer: payer_of(record.payer),
@@ -81,7 +73,7 @@ impl NotedCall {
     /// The line that the call was offered to, if it was.
     fn called_party(&self, alloc: Global) -> Result<Option<Party>, AllocError> {
         match &self.called {
-            Some(called) => Ok(Some(called.party(alloc)?)),
+            Some(called) => Ok(Some(party_of(alloc, &called.line, &called.address)?)),
             None => Ok(None),
         }
     }

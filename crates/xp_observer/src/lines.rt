@@ -80,14 +80,14 @@ impl NamedLine {
             router_unreachable_since,
         })
     }
+}
 
-    /// The line as a party to a call.
-    pub(crate) fn party(&self, alloc: Global) -> Result<Party, AllocError> {
-        Ok(Party {
-            line: String::from_str(alloc, self.name.as_str())?,
-            address: self.address.to_string(alloc)?,
-        })
-    }
+/// A line of this name and this address as a party to a call.
+pub(crate) fn party_of(alloc: Global, name: &Name, address: &Digits) -> Result<Party, AllocError> {
+    Ok(Party {
+        line: String::from_str(alloc, name.as_str())?,
+        address: address.to_string(alloc)?,
+    })
 }
 
 /// The state of a line's logical channel.

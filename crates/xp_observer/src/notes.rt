@@ -75,8 +75,8 @@ impl Notes {
 
     /// Begins anew at this moment with each place whose line has another name than before.
     pub(crate) fn begin_anew(&mut self, before: &[NamedLine], lines: &[NamedLine], now: u64) {
-        for (notes, (was, is)) in self.lines.iter_mut().zip(before.iter().zip(lines.iter())) {
-            if is.name != was.name {
+        for (place, notes) in self.lines.iter_mut().enumerate() {
+            if has_another_name(before, lines, place) {
                 *notes = LineNotes::new(now);
             }
         }
@@ -91,8 +91,10 @@ impl Notes {
 
     /// Takes note of what is seen of the lines at this moment.
     pub(crate) fn see(&mut self, now: u64, view: &ExchangeView) {
-        for (notes, seen) in self.lines.iter_mut().zip(view.lines.iter()) {
-            notes.see(now, seen.line);
+        for (place, notes) in self.lines.iter_mut().enumerate() {
+            if let Some(seen) = view.lines.get(place) {
+                notes.see(now, seen.line);
+            }
         }
     }
 
@@ -120,6 +122,14 @@ impl Notes {
         }
         // There is room for them all.
         let _ = self.ended_last.push_back(NotedCall::of(lines, record));
+    }
+}
+
+/// Whether the line at this place has another name than before.
+fn has_another_name(before: &[NamedLine], lines: &[NamedLine], place: usize) -> bool {
+    match (before.get(place), lines.get(place)) {
+        (Some(was), Some(is)) => is.name != was.name,
+        _ => false,
     }
 }
 

@@ -23,7 +23,6 @@ pub(crate) const NO_USER: usize = 0;
 
 /// The address block, facilities and user data of a call set-up or clearing packet
 /// (X.25 clauses 5.2.1 to 5.2.5).
-#[derive(Clone)]
 pub struct Block<A: Allocator = Global> {
     /// The called address, 0 to 15 digits.
     pub called: Digits,
@@ -46,6 +45,21 @@ impl<A: Allocator> Drop for Block<A> {
     }
 }
 
+impl<A: Allocator> Clone for Block<A> {
+    ghost is_clone = { λ block cloned. cloned ≡ block };
+
+    fn clone(&self) -> Result<Block<A>, AllocError> {
+        let facilities = self.facilities.copy()?;
+        let user = self.user.copy()?;
+        Ok(Block {
+            called: self.called.copy(),
+            calling: self.calling.copy(),
+            facilities,
+            user,
+        })
+    }
+}
+
 /// Reads a block, which must use all the octets. Its user data has at most `most` octets. Nothing is copied before
 /// every check has passed.
 #[tactic(auto, unfolding(crate::specs::steps::Reading::block_at))]
@@ -56,23 +70,21 @@ pub(crate) fn block_of<A: Allocator + Copy>(
 ) -> Result<Block<A>, PacketFault>
     ensures { MatchesReadingOrMemory (λ _. true) result (block_at most octets.now) }
 {
-    match octets {
-        [] => Err(Malformed::Short.into()),
-        [lengths, rest @ ..] => {
-            let called = usize::from(*lengths & 0x0f);
-            let calling = usize::from(*lengths >> 4);
-            let (called, calling, rest) = addresses_of(called, calling, rest)?;
-            let (facilities, user) = fields_of(rest, most)?;
-            let facilities = Octets::from_slice(alloc, facilities)?;
-            let user = Octets::from_slice(alloc, user)?;
-            Ok(Block {
-                called,
-                calling,
-                facilities,
-                user,
-            })
-        }
-    }
+    let Some((lengths, rest)) = octets.split_first() else {
+        return Err(Malformed::Short.into());
+    };
+    let called = usize::from(*lengths % 16);
+    let calling = usize::from(*lengths / 16);
+    let (called, calling, rest) = addresses_of(called, calling, rest)?;
+    let (facilities, user) = fields_of(rest, most)?;
+    let facilities = Octets::from_slice(alloc, facilities)?;
+    let user = Octets::from_slice(alloc, user)?;
+    Ok(Block {
+        called,
+        calling,
+        facilities,
+        user,
+    })
 }
 
 /// Reads a block of at most `most` octets of user data. Returns `None` where there are no octets.

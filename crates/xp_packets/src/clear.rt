@@ -15,22 +15,22 @@ use std::alloc::{AllocError, Allocator};
 pub(crate) fn clear_of<A: Allocator + Copy>(alloc: A, rest: &[u8]) -> Result<Packet<A>, PacketFault>
     ensures { MatchesReadingOrMemory owns_octets result (clear_at rest.now) }
 {
-    match rest {
-        [] => Err(Malformed::Short.into()),
-        [cause] => Ok(Packet::Clear {
+    let Some((cause, rest)) = rest.split_first() else {
+        return Err(Malformed::Short.into());
+    };
+    let Some((diagnostic, rest)) = rest.split_first() else {
+        return Ok(Packet::Clear {
             cause: *cause,
             diagnostic: None,
             block: None,
-        }),
-        [cause, diagnostic, rest @ ..] => {
-            let block = optional_block_of(alloc, rest, MOST_USER)?;
-            Ok(Packet::Clear {
-                cause: *cause,
-                diagnostic: Some(*diagnostic),
-                block,
-            })
-        }
-    }
+        });
+    };
+    let block = optional_block_of(alloc, rest, MOST_USER)?;
+    Ok(Packet::Clear {
+        cause: *cause,
+        diagnostic: Some(*diagnostic),
+        block,
+    })
 }
 
 /// Reads the octets after the type of a clear confirmation, which carries no user data.

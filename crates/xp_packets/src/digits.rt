@@ -7,7 +7,7 @@ use std::fmt;
 use std::marker::Model;
 
 /// The digits of an address (X.25 clause 5.2.1): at most 15, each 0 to 9.
-#[derive(Clone, Drop, PartialEq, Eq, Hash)]
+#[derive(Drop, PartialEq, Eq, Hash)]
 pub struct Digits {
     values: ArrayVec<u8, 15>,
 }

@@ -82,9 +82,10 @@ fn carries_long_facilities<A: Allocator>(packet: &Packet<A>) -> bool
 fn has_long_facilities<A: Allocator>(block: &Option<Block<A>>) -> bool
     ensures { result ≡ has_long_facilities block.now }
 {
-    block
-        .as_ref()
-        .is_some_and(|block| block.facilities.len() > MOST_FACILITIES)
+    match block {
+        Some(block) => block.facilities.len() > MOST_FACILITIES,
+        None => false,
+    }
 }
 
 /// Whether there is more user data, data or interrupt data than a packet of its kind may carry.
@@ -106,5 +107,8 @@ fn is_too_long<A: Allocator>(packet: &Packet<A>) -> bool
 fn has_more_user_data<A: Allocator>(most: usize, block: &Option<Block<A>>) -> bool
     ensures { result ≡ has_more_user_data most block.now }
 {
-    block.as_ref().is_some_and(|block| block.user.len() > most)
+    match block {
+        Some(block) => block.user.len() > most,
+        None => false,
+    }
 }

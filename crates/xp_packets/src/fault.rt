@@ -4,6 +4,10 @@ ghost use Rattle.xp_packets.specs.declared.fault.PacketFault.TheVariants.{Memory
 
 use std::alloc::AllocError;
 use thiserror::Error;
+use xp_causes::diagnostic::{
+    INVALID_CALLED_ADDRESS, INVALID_FACILITY_LENGTH, INVALID_FORMAT_IDENTIFIER, PACKET_TOO_LONG,
+    PACKET_TOO_SHORT, UNIDENTIFIABLE_PACKET,
+};
 
 /// Why octets are not a packet, or why a packet cannot be encoded. The variants are in the order of the checks,
 /// except that a missing cause, block, interrupt data or P(R) is checked after the type.
@@ -38,12 +42,12 @@ impl Malformed {
         ensures { result ≡ diagnostic_of self }
     {
         match self {
-            Malformed::Short => 38,
-            Malformed::Format => 40,
-            Malformed::Unknown => 33,
-            Malformed::Address => 67,
-            Malformed::Facilities => 69,
-            Malformed::Long => 39,
+            Malformed::Short => PACKET_TOO_SHORT,
+            Malformed::Format => INVALID_FORMAT_IDENTIFIER,
+            Malformed::Unknown => UNIDENTIFIABLE_PACKET,
+            Malformed::Address => INVALID_CALLED_ADDRESS,
+            Malformed::Facilities => INVALID_FACILITY_LENGTH,
+            Malformed::Long => PACKET_TOO_LONG,
         }
     }
 }

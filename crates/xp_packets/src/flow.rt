@@ -2,10 +2,11 @@
 //! 5.4.4 and 5.7.1).
 
 ghost use Rattle.std.specs.Prelude.{◌≡◌};
+ghost use Rattle.xp_packets.specs.Owning.{owns_octets};
 ghost use Rattle.xp_packets.specs.steps.Numbers.{flow_number_at};
-ghost use Rattle.xp_packets.specs.steps.Reading.{MatchesReading, header_only_at};
+ghost use Rattle.xp_packets.specs.steps.Reading.{MatchesReading, MatchesReadingOrMemory, header_only_at};
 
-use crate::fault::Malformed;
+use crate::fault::{Malformed, PacketFault};
 use crate::modulus::Modulus;
 use crate::packet::Packet;
 use std::alloc::Allocator;
@@ -15,12 +16,12 @@ use std::alloc::Allocator;
 pub(crate) fn header_only<A: Allocator>(
     packet: Packet<A>,
     rest: &[u8],
-) -> Result<Packet<A>, Malformed>
-    ensures { MatchesReading (λ x. x) result (header_only_at packet rest.now) }
+) -> Result<Packet<A>, PacketFault>
+    ensures { MatchesReadingOrMemory owns_octets result (header_only_at packet rest.now) }
 {
     match rest {
         [] => Ok(packet),
-        [_, ..] => Err(Malformed::Long),
+        [_, ..] => Err(Malformed::Long.into()),
     }
 }
 

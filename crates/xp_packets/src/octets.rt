@@ -128,11 +128,3 @@ impl<A: Allocator + Copy> Octets<A> {
         Octets::from_vec(Vec::from_slice(alloc, octets)?)
     }
 }
-
-impl<A: Allocator> Clone for Octets<A> {
-    ghost is_clone = { λ octets cloned. cloned ≡ octets };
-
-    fn clone(&self) -> Result<Octets<A>, AllocError> {
-        self.copy()
-    }
-}

@@ -5,7 +5,6 @@ use crate::octets::Octets;
 use std::alloc::{AllocError, Allocator, Global};
 
 /// A packet between a DTE and the exchange (X.25 clause 5), without its logical channel identifier.
-#[derive(Clone)]
 pub enum Packet<A: Allocator = Global> {
     /// Call request and incoming call (clause 5.2.2).
     Call {
@@ -121,6 +120,54 @@ impl<A: Allocator + Copy> Packet<A> {
     pub fn copy(&self) -> Result<Packet<A>, AllocError>
         ensures { IfOk result (λ copied. copied ≡ self.now) }
     {
-        self.clone()
+        match self {
+            Packet::Call { d, block } => Ok(Packet::Call {
+                d: *d,
+                block: block.clone()?,
+            }),
+            Packet::Accepted { d, block } => Ok(Packet::Accepted {
+                d: *d,
+                block: block.clone()?,
+            }),
+            Packet::Clear {
+                cause,
+                diagnostic,
+                block,
+            } => Ok(Packet::Clear {
+                cause: *cause,
+                diagnostic: *diagnostic,
+                block: block.clone()?,
+            }),
+            Packet::ClearConfirm { block } => Ok(Packet::ClearConfirm {
+                block: block.clone()?,
+            }),
+            Packet::DataPacket {
+                q,
+                d,
+                more,
+                ps,
+                pr,
+                octets,
+            } => Ok(Packet::DataPacket {
+                q: *q,
+                d: *d,
+                more: *more,
+                ps: *ps,
+                pr: *pr,
+                octets: octets.copy()?,
+            }),
+            Packet::Ready { pr } => Ok(Packet::Ready { pr: *pr }),
+            Packet::NotReady { pr } => Ok(Packet::NotReady { pr: *pr }),
+            Packet::Reject { pr } => Ok(Packet::Reject { pr: *pr }),
+            Packet::Interrupt { octets } => Ok(Packet::Interrupt {
+                octets: octets.copy()?,
+            }),
+            Packet::InterruptConfirm => Ok(Packet::InterruptConfirm),
+            Packet::Reset { cause, diagnostic } => Ok(Packet::Reset {
+                cause: *cause,
+                diagnostic: *diagnostic,
+            }),
+            Packet::ResetConfirm => Ok(Packet::ResetConfirm),
+        }
     }
 }

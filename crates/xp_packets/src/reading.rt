@@ -60,24 +60,24 @@ fn body_of<A: Allocator + Copy>(
 ) -> Result<Packet<A>, PacketFault>
     ensures { MatchesReadingOrMemory owns_octets result (body_by modulus header.now.kind header.now rest.now) }
 {
-    Ok(match header.kind {
-        Kind::Call => call_of(alloc, header.d, rest)?,
-        Kind::Accepted => accepted_of(alloc, header.d, rest)?,
-        Kind::Clear => clear_of(alloc, rest)?,
-        Kind::ClearConfirm => clear_confirm_of(alloc, rest)?,
-        Kind::Interrupt => interrupt_of(alloc, rest)?,
-        Kind::InterruptConfirm => header_only(Packet::InterruptConfirm, rest)?,
-        Kind::Reset => reset_of(rest)?,
-        Kind::ResetConfirm => header_only(Packet::ResetConfirm, rest)?,
-        Kind::Data => data_of(alloc, modulus, header, rest)?,
-        Kind::Ready => Packet::Ready {
+    match header.kind {
+        Kind::Call => call_of(alloc, header.d, rest),
+        Kind::Accepted => accepted_of(alloc, header.d, rest),
+        Kind::Clear => clear_of(alloc, rest),
+        Kind::ClearConfirm => clear_confirm_of(alloc, rest),
+        Kind::Interrupt => interrupt_of(alloc, rest),
+        Kind::InterruptConfirm => header_only(Packet::InterruptConfirm, rest),
+        Kind::Reset => reset_of(rest),
+        Kind::ResetConfirm => header_only(Packet::ResetConfirm, rest),
+        Kind::Data => data_of(alloc, modulus, header, rest),
+        Kind::Ready => Ok(Packet::Ready {
             pr: flow_number(modulus, header.octet, rest)?,
-        },
-        Kind::NotReady => Packet::NotReady {
+        }),
+        Kind::NotReady => Ok(Packet::NotReady {
             pr: flow_number(modulus, header.octet, rest)?,
-        },
-        Kind::Reject => Packet::Reject {
+        }),
+        Kind::Reject => Ok(Packet::Reject {
             pr: flow_number(modulus, header.octet, rest)?,
-        },
-    })
+        }),
+    }
 }

@@ -8,12 +8,8 @@ use toml::{Table, Value};
 use xp_file::{Key, SubscriptionFault};
 use xp_subs::{Access, RouterAddress, Subs};
 
-/// A station with `default_caller`, and where it stands.
-#[derive(Clone, Copy)]
-struct Caller<'a> {
-    place: Place<'a>,
-    station: &'a Value,
-}
+/// A station with `default_caller`, and its number from 1 on.
+type Caller<'a> = (usize, &'a Table);
 
 /// The first station, in the order of the file, that is a default caller of one router with a station before it, behind that one. `None`
 /// where there is none.
@@ -21,33 +17,46 @@ pub(crate) fn rivals<'a>(
     alloc: Global,
     file: &'a Table,
 ) -> Result<Option<(Place<'a>, Place<'a>)>, AllocError> {
-    let callers = callers(alloc, file)?;
     let mut behind = IndexMap::new(alloc);
-    first_rivals(alloc, &callers, &mut behind)
+    first_rivals(alloc, array(file, "station"), &mut behind)
 }
 
-/// The first of these that is behind a router with one before it, behind that one. Notes which is the first behind each router.
+/// The first of these stations that is behind a router with one before it, behind that one. Notes which is the first behind each router.
 fn first_rivals<'a>(
     alloc: Global,
-    callers: &[Caller<'a>],
-    behind: &mut IndexMap<String, usize>,
+    stations: &'a [Value],
+    behind: &mut IndexMap<String, Caller<'a>>,
 ) -> Result<Option<(Place<'a>, Place<'a>)>, AllocError> {
-    for (number, caller) in callers.iter().enumerate() {
-        let routers = routers_of(alloc, caller.station)?;
-        if let Some(rival) = first_behind(behind, &routers).and_then(|first| callers.get(first)) {
-            return Ok(Some((rival.place, caller.place)));
+    for (above, station) in stations.iter().enumerate() {
+        let Some(station) = default_caller(station) else {
+            continue;
+        };
+        let routers = routers_of(alloc, station)?;
+        if let Some((number, rival)) = first_behind(behind, &routers) {
+            let rival = Place::Station(number, rival);
+            return Ok(Some((rival, Place::Station(above + 1, station))));
         }
-        add_behind(alloc, behind, &routers, number)?;
+        add_behind(alloc, behind, &routers, (above + 1, station))?;
     }
     Ok(None)
 }
 
-/// The number of the first default caller that is behind one of these routers.
-fn first_behind(behind: &IndexMap<String, usize>, routers: &[RouterAddress]) -> Option<usize> {
-    let mut first = None;
+/// The station, if it has `default_caller = true`.
+fn default_caller(station: &Value) -> Option<&Table> {
+    let station = station.as_table()?;
+    let is_default = station.get(Key::DefaultCaller.name())?.as_bool()?;
+    is_default.then_some(station)
+}
+
+/// The first default caller that is behind one of these routers.
+fn first_behind<'a>(
+    behind: &IndexMap<String, Caller<'a>>,
+    routers: &[RouterAddress],
+) -> Option<Caller<'a>> {
+    let mut first: Option<Caller<'a>> = None;
     for router in routers {
         match (first, behind.get(router.address())) {
-            (Some(number), Some(other)) if number <= *other => {}
+            (Some((number, _)), Some((other, _))) if number <= *other => {}
             (_, Some(other)) => first = Some(*other),
             (_, None) => {}
         }
@@ -55,26 +64,22 @@ fn first_behind(behind: &IndexMap<String, usize>, routers: &[RouterAddress]) -> 
     first
 }
 
-/// Notes that the default caller of this number is behind these routers.
-fn add_behind(
+/// Notes that the default caller is behind these routers.
+fn add_behind<'a>(
     alloc: Global,
-    behind: &mut IndexMap<String, usize>,
+    behind: &mut IndexMap<String, Caller<'a>>,
     routers: &[RouterAddress],
-    number: usize,
+    caller: Caller<'a>,
 ) -> Result<(), AllocError> {
     for router in routers {
-        let address = router.address().to_string(alloc)?;
-        behind.insert(address, number).map_err(|_| AllocError)?;
+        behind.insert(router.address().to_string(alloc)?, caller)?;
     }
     Ok(())
 }
 
 /// The routers of the lines of a station.
-fn routers_of(alloc: Global, station: &Value) -> Result<Vec<RouterAddress>, AllocError> {
+fn routers_of(alloc: Global, station: &Table) -> Result<Vec<RouterAddress>, AllocError> {
     let mut routers = Vec::new(alloc);
-    let Some(station) = station.as_table() else {
-        return Ok(routers);
-    };
     for line in array(station, "line") {
         if let Some(router) = router_of(alloc, line)? {
             routers.push(router)?;
@@ -85,10 +90,10 @@ fn routers_of(alloc: Global, station: &Value) -> Result<Vec<RouterAddress>, Allo
 
 /// The router of a line, if it is behind one, as that of a line alone in a file: what else is wrong with the station is told later.
 fn router_of(alloc: Global, line: &Value) -> Result<Option<RouterAddress>, AllocError> {
-    let Some(value) = line
-        .as_table()
-        .and_then(|line| line.get(Key::Router.name()))
-    else {
+    let Some(line) = line.as_table() else {
+        return Ok(None);
+    };
+    let Some(value) = line.get(Key::Router.name()) else {
         return Ok(None);
     };
     let text = format!(in alloc;
@@ -110,22 +115,4 @@ fn first_router(subs: &Subs) -> Option<RouterAddress> {
         Access::Router(router) => Some(router.copy()),
         Access::Port(_) | Access::Spare => None,
     }
-}
-
-/// The stations with `default_caller = true`, in order.
-fn callers<'a>(alloc: Global, file: &'a Table) -> Result<Vec<Caller<'a>>, AllocError> {
-    let mut callers = Vec::new(alloc);
-    for (place, station) in array(file, "station").iter().enumerate() {
-        if let Some(place) = default_caller(place + 1, station) {
-            callers.push(Caller { place, station })?;
-        }
-    }
-    Ok(callers)
-}
-
-/// The place of this station, if it has `default_caller = true`.
-fn default_caller(number: usize, station: &Value) -> Option<Place<'_>> {
-    let place = Place::Station(number, station.as_table()?);
-    let is_default = place.value(Key::DefaultCaller.name())?.as_bool()?;
-    is_default.then_some(place)
 }

@@ -18,25 +18,37 @@ pub(crate) fn line_of_key(
     key: &str,
     value: &Value,
 ) -> Result<Option<usize>, AllocError> {
-    let Some(number) = place.station() else {
+    let Some((number, _)) = place.station() else {
         return Ok(None);
     };
     if headings_in(text) != array(file, "station").len() {
         return Ok(None);
     }
     let value = format!(in alloc; "{value}")?;
+    Ok(line_within(text, number, place.name(), key, &value))
+}
+
+/// The number of the one line within the station of this number that gives this value to the key. Where several do, that of the one
+/// that has this name too.
+fn line_within(
+    text: &str,
+    number: usize,
+    name: Option<&str>,
+    key: &str,
+    value: &str,
+) -> Option<usize> {
     let (mut with_value, mut with_name) = (LinesFound::default(), LinesFound::default());
     let mut station = 0_usize;
     for (above, line) in text.lines().enumerate() {
         station = station.saturating_add(usize::from(is_heading(line)));
-        if station == number && has_value(line, key, &value) {
+        if station == number && has_value(line, key, value) {
             with_value.note(above);
-            if place.name().is_some_and(|name| line.contains(name)) {
+            if name.is_some_and(|name| line.contains(name)) {
                 with_name.note(above);
             }
         }
     }
-    Ok(with_value.only_one().or(with_name.only_one()))
+    with_value.only_one().or(with_name.only_one())
 }
 
 /// Lines that were found: how many, and the last of them.
@@ -79,7 +91,7 @@ fn has_value(line: &str, key: &str, value: &str) -> bool {
         return false;
     }
     for (start, _) in line.match_indices(key) {
-        if let (Some(before), Some(from_key)) = (line.get(..start), line.get(start..)) {
+        if let Some((before, from_key)) = line.split_at_checked(start) {
             if !before.ends_with(is_of_a_word) && gives_value(from_key, key, value) {
                 return true;
             }

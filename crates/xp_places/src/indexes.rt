@@ -2,55 +2,45 @@
 
 use crate::alone::array;
 use crate::place::Place;
-use std::fmt;
+use std::alloc::AllocError;
+use std::fmt::Write;
 use toml::Value;
 use xp_file::Key;
 
-/// What is wrong with the indexes of the groups of a station.
-#[derive(Clone, Copy)]
-pub(crate) enum IndexFault<'a> {
-    /// Two of its groups have this index.
-    IndexTwice(&'a Value),
-    /// It has the group of this name twice.
-    GroupTwice(&'a Value),
-    /// `preferential` is none of its indexes.
-    Preferential,
-}
+/// The keys whose value no two groups of a station may share, and what that value is.
+const OWN: [(Key, &str); 2] = [(Key::Index, "index"), (Key::Name, "group")];
 
-impl fmt::Display for IndexFault<'_> {
-    fn fmt<W: fmt::Write>(&self, f: &mut fmt::Formatter<W>) -> fmt::Result {
-        match self {
-            IndexFault::IndexTwice(index) => write!(f, "index {index} stands there twice"),
-            IndexFault::GroupTwice(name) => write!(f, "group {name} stands there twice"),
-            IndexFault::Preferential => f.write_str("`preferential` is none of its indexes"),
+/// Adds what is wrong with the indexes of the station at this place, which is refused for them.
+pub(crate) fn push_faulty_index(told: &mut String, station: Place<'_>) -> Result<(), AllocError> {
+    write!(told, "at {station}: ")?;
+    let groups = array(station.table(), "group");
+    for (key, what) in &OWN {
+        if let Some(value) = value_twice(groups, *key) {
+            return write!(told, "{what} {value} stands there twice");
         }
     }
+    told.push_str("`preferential` is none of its indexes")
 }
 
-/// What is wrong with the indexes of the station at this place, which is refused for them.
-pub(crate) fn faulty_index(station: Place<'_>) -> IndexFault<'_> {
-    if let Some(index) = value_twice(station, Key::Index) {
-        return IndexFault::IndexTwice(index);
-    }
-    match value_twice(station, Key::Name) {
-        Some(name) => IndexFault::GroupTwice(name),
-        None => IndexFault::Preferential,
-    }
-}
-
-/// The first value of this key that two groups of a station have.
-fn value_twice(station: Place<'_>, key: Key) -> Option<&Value> {
-    let groups = array(station.table(), "group");
+/// The first value of this key that two of these groups have. `None` where a group before them has no such key.
+fn value_twice(groups: &[Value], key: Key) -> Option<&Value> {
     for (above, group) in groups.iter().enumerate() {
         let value = value_of(group, key)?;
-        if groups[..above]
-            .iter()
-            .any(|other| value_of(other, key) == Some(value))
-        {
+        if has_value(&groups[..above], key, value) {
             return Some(value);
         }
     }
     None
+}
+
+/// Whether one of these groups has this value of the key.
+fn has_value(groups: &[Value], key: Key, value: &Value) -> bool {
+    for group in groups {
+        if value_of(group, key) == Some(value) {
+            return true;
+        }
+    }
+    false
 }
 
 /// The value of this key of a group.

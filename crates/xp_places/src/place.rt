@@ -29,14 +29,14 @@ impl<'a> Place<'a> {
         }
     }
 
-    /// The number of the station, from 1 on. `None` at the top of the file.
-    pub(crate) fn station(&self) -> Option<usize> {
+    /// The station, and its number from 1 on. `None` at the top of the file.
+    pub(crate) fn station(&self) -> Option<(usize, &'a Table)> {
         match *self {
             Place::Top(_) => None,
-            Place::Station(number, _)
-            | Place::Line(number, _, _, _)
-            | Place::Group(number, _, _, _)
-            | Place::Redirection(number, _, _) => Some(number),
+            Place::Station(number, station)
+            | Place::Line(number, station, _, _)
+            | Place::Group(number, station, _, _)
+            | Place::Redirection(number, station, _) => Some((number, station)),
         }
     }
 
@@ -53,23 +53,15 @@ impl<'a> Place<'a> {
 
 impl fmt::Display for Place<'_> {
     fn fmt<W: fmt::Write>(&self, f: &mut fmt::Formatter<W>) -> fmt::Result {
+        let Some((number, station)) = self.station() else {
+            return f.write_str("the top of the file");
+        };
+        write_named(f, "station", number, "address", station)?;
         match *self {
-            Place::Top(_) => f.write_str("the top of the file"),
-            Place::Station(number, station) => write_named(
-                f, "station", number, "address", station,
-            ),
-            Place::Line(number, station, line_number, line) => {
-                write_named(f, "station", number, "address", station)?;
-                write_named(f, ", line", line_number, "name", line)
-            }
-            Place::Group(number, station, group_number, group) => {
-                write_named(f, "station", number, "address", station)?;
-                write_named(f, ", group", group_number, "name", group)
-            }
-            Place::Redirection(number, station, _) => {
-                write_named(f, "station", number, "address", station)?;
-                f.write_str(", redirect")
-            }
+            Place::Top(_) | Place::Station(_, _) => Ok(()),
+            Place::Line(_, _, number, line) => write_named(f, ", line", number, "name", line),
+            Place::Group(_, _, number, group) => write_named(f, ", group", number, "name", group),
+            Place::Redirection(_, _, _) => f.write_str(", redirect"),
         }
     }
 }

@@ -3,10 +3,10 @@
 use crate::alone::{array, refused_part};
 use crate::default_callers::rivals;
 use crate::file_line::line_of_key;
-use crate::indexes::faulty_index;
+use crate::indexes::push_faulty_index;
 use crate::place::Place;
 use crate::twice::twice_used;
-use crate::wanted::{keys_at, wanted};
+use crate::wanted::{may_have, wanted};
 use std::alloc::{AllocError, Global};
 use std::fmt::Write;
 use toml::{Table, Value};
@@ -52,46 +52,43 @@ fn push_place(
 ) -> Result<(), AllocError> {
     match fault {
         SubscriptionFault::Toml | SubscriptionFault::Memory => Ok(()),
-        SubscriptionFault::TwiceUsed(Key::DefaultCaller) => push_rivals(alloc, told, file),
         SubscriptionFault::TwiceUsed(key) => push_twice(alloc, told, file, key),
-        SubscriptionFault::Field(key) => {
-            let place = refused_part(alloc, file, fault)?.unwrap_or(Place::Top(file));
-            push_field(alloc, told, text, file, place, key)
-        }
-        SubscriptionFault::Index => match refused_part(alloc, file, fault)? {
-            Some(place) => write!(told, "at {place}: {}", faulty_index(place)),
-            None => Ok(()),
-        },
-        SubscriptionFault::Limit(key) => {
-            let place = refused_part(alloc, file, fault)?.unwrap_or(Place::Top(file));
-            match key {
-                Key::SpareLines | Key::SpareLines128 => push_places(told),
-                _ => push_limit(told, place, key),
-            }
-        }
+        _ => push_part(alloc, told, text, file, fault),
     }
 }
 
+/// Both places of what is used twice.
 fn push_twice(alloc: Global, told: &mut String, file: &Table, key: Key) -> Result<(), AllocError> {
-    match twice_used(alloc, file, key)? {
-        Some((first, second)) => write!(
-            told,
-            "at {} and {}: {}",
-            first.place, second.place, second.value
-        ),
-        None => Ok(()),
+    let places = match key {
+        Key::DefaultCaller => rivals(alloc, file)?,
+        _ => twice_used(alloc, file, key)?,
+    };
+    let Some((first, second)) = places else {
+        return Ok(());
+    };
+    write!(told, "at {first} and {second}: ")?;
+    match second.value(key.name()) {
+        Some(value) if key != Key::DefaultCaller => write!(told, "{value}"),
+        _ => told.push_str("both have lines behind one router"),
     }
 }
 
-fn push_rivals(alloc: Global, told: &mut String, file: &Table) -> Result<(), AllocError> {
-    match rivals(alloc, file)? {
-        Some((first, second)) => {
-            write!(
-                told,
-                "at {first} and {second}: both have lines behind one router"
-            )
-        }
-        None => Ok(()),
+/// The part of the file that is refused where it stands alone, or else the top of the file.
+fn push_part(
+    alloc: Global,
+    told: &mut String,
+    text: &str,
+    file: &Table,
+    fault: SubscriptionFault,
+) -> Result<(), AllocError> {
+    let part = refused_part(alloc, file, fault)?;
+    let place = part.unwrap_or(Place::Top(file));
+    match fault {
+        SubscriptionFault::Field(key) => push_field(alloc, told, text, file, place, key),
+        SubscriptionFault::Limit(Key::SpareLines | Key::SpareLines128) => push_places(told),
+        SubscriptionFault::Limit(key) => push_limit(told, place, key),
+        _ if part.is_some() => push_faulty_index(told, place),
+        _ => Ok(()),
     }
 }
 
@@ -104,16 +101,16 @@ fn push_field(
     key: Key,
 ) -> Result<(), AllocError> {
     write!(told, "at {place}")?;
-    match place.value(key.name()) {
-        _ if key == Key::Other => push_unknown(told, place),
-        Some(value) => {
-            if let Some(line) = line_of_key(alloc, text, file, place, key.name(), value)? {
-                write!(told, ", in line {line} of the file")?;
-            }
-            push_wanted(told, place, key, value)
-        }
-        None => write!(told, ": `{key}` is missing"),
+    if key == Key::Other {
+        return push_unknown(told, place);
     }
+    let Some(value) = place.value(key.name()) else {
+        return write!(told, ": `{key}` is missing");
+    };
+    if let Some(line) = line_of_key(alloc, text, file, place, key.name(), value)? {
+        write!(told, ", in line {line} of the file")?;
+    }
+    push_wanted(told, place, key, value)
 }
 
 /// What is wanted of a key, and what was found. Digits without quotation marks are a number, which is what is mistaken most often.
@@ -124,23 +121,18 @@ fn push_wanted(
     value: &Value,
 ) -> Result<(), AllocError> {
     let wanted = wanted(place, key);
-    match (key, value) {
-        (Key::Address | Key::To, Value::Integer(_)) => write!(
-            told,
-            ": {wanted}, in quotation marks, is wanted, found {value}"
-        ),
-        _ => write!(told, ": {wanted} is wanted, found {value}"),
-    }
+    let quoted = match (key, value) {
+        (Key::Address | Key::To, Value::Integer(_)) => ", in quotation marks,",
+        _ => "",
+    };
+    write!(told, ": {wanted}{quoted} is wanted, found {value}")
 }
 
 /// The keys that the table at this place may not have.
 fn push_unknown(told: &mut String, place: Place<'_>) -> Result<(), AllocError> {
     told.push_str(": there is no such key:")?;
     for (key, _) in place.table().iter() {
-        if !keys_at(place)
-            .iter()
-            .any(|known| known.name() == key.as_str())
-        {
+        if !may_have(place, key.as_str()) {
             write!(told, " `{key}`")?;
         }
     }
@@ -162,10 +154,9 @@ fn push_limit(told: &mut String, place: Place<'_>, key: Key) -> Result<(), Alloc
         (Key::Line, _) => MOST_LINES_OF_STATION,
         _ => MOST_GROUPS_OF_STATION,
     };
-    let found = array(place.table(), key.name()).len();
     write!(told, "at {place}: at most {most} of `{key}`")?;
-    if !matches!((key, place), (Key::Line, Place::Top(_))) {
-        write!(told, ", found {found}")?;
+    match (key, place) {
+        (Key::Line, Place::Top(_)) => Ok(()),
+        _ => write!(told, ", found {}", array(place.table(), key.name()).len()),
     }
-    Ok(())
 }

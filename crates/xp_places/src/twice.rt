@@ -4,75 +4,63 @@ use crate::alone::array;
 use crate::place::Place;
 use indexmap::IndexMap;
 use std::alloc::{AllocError, Global};
-use toml::{Table, Value};
+use toml::Table;
 use xp_file::Key;
 
-/// A value that may stand only once in the file, and where it stands.
-#[derive(Clone, Copy)]
-pub(crate) struct Use<'a> {
-    pub(crate) place: Place<'a>,
-    pub(crate) value: &'a Value,
-}
-
-/// The first value of this key that stands in two places, and both. `None` where there is none.
+/// The first place, in the order of the file, whose value of this key stands at a place before it, behind that one. `None` where there is
+/// none.
 pub(crate) fn twice_used<'a>(
     alloc: Global,
     file: &'a Table,
     key: Key,
-) -> Result<Option<(Use<'a>, Use<'a>)>, AllocError> {
-    let uses = uses_of(alloc, file, key)?;
-    let mut places = IndexMap::new(alloc);
-    first_twice(alloc, &uses, &mut places)
+) -> Result<Option<(Place<'a>, Place<'a>)>, AllocError> {
+    let places = places_in(alloc, file)?;
+    let mut used = IndexMap::new(alloc);
+    first_twice(alloc, &places, key, &mut used)
 }
 
-/// The first of these whose value stands before it already, behind that one. Notes the place of each value before it.
+/// The first of these places whose value stands at one before it, behind that one. Notes which is the first with each value.
 fn first_twice<'a>(
     alloc: Global,
-    uses: &[Use<'a>],
-    places: &mut IndexMap<String, usize>,
-) -> Result<Option<(Use<'a>, Use<'a>)>, AllocError> {
-    for (place, later) in uses.iter().enumerate() {
-        let text = later.value.to_string(alloc)?;
-        if let Some(earlier) = places.get(&text).and_then(|first| uses.get(*first)) {
+    places: &[Place<'a>],
+    key: Key,
+    used: &mut IndexMap<String, Place<'a>>,
+) -> Result<Option<(Place<'a>, Place<'a>)>, AllocError> {
+    for later in places {
+        let Some(value) = later.value(key.name()) else {
+            continue;
+        };
+        let text = value.to_string(alloc)?;
+        if let Some(earlier) = used.get(&text) {
             return Ok(Some((*earlier, *later)));
         }
-        places.insert(text, place).map_err(|_| AllocError)?;
+        used.insert(text, *later)?;
     }
     Ok(None)
 }
 
-/// The values of this key in all stations and lines, in order.
-fn uses_of<'a>(alloc: Global, file: &'a Table, key: Key) -> Result<Vec<Use<'a>>, AllocError> {
-    let mut uses = Vec::new(alloc);
-    for (place, value) in array(file, "station").iter().enumerate() {
-        if let Some(station) = value.as_table() {
-            push_station(&mut uses, place + 1, station, key)?;
+/// All stations, each with its lines behind it.
+fn places_in(alloc: Global, file: &Table) -> Result<Vec<Place<'_>>, AllocError> {
+    let mut places = Vec::new(alloc);
+    for (above, station) in array(file, "station").iter().enumerate() {
+        if let Some(station) = station.as_table() {
+            push_station(&mut places, above + 1, station)?;
         }
     }
-    Ok(uses)
+    Ok(places)
 }
 
+/// Adds a station, and its lines behind it.
 fn push_station<'a>(
-    uses: &mut Vec<Use<'a>>,
+    places: &mut Vec<Place<'a>>,
     number: usize,
     station: &'a Table,
-    key: Key,
 ) -> Result<(), AllocError> {
-    let own = Place::Station(number, station);
-    if let (Key::Address, Some(value)) = (key, own.value(key.name())) {
-        uses.push(Use { place: own, value })?;
-    }
-    for (place, value) in array(station, "line").iter().enumerate() {
-        if let Some(line) = value.as_table() {
-            push_line(uses, Place::Line(number, station, place + 1, line), key)?;
+    places.push(Place::Station(number, station))?;
+    for (above, line) in array(station, "line").iter().enumerate() {
+        if let Some(line) = line.as_table() {
+            places.push(Place::Line(number, station, above + 1, line))?;
         }
-    }
-    Ok(())
-}
-
-fn push_line<'a>(uses: &mut Vec<Use<'a>>, place: Place<'a>, key: Key) -> Result<(), AllocError> {
-    if let Some(value) = place.value(key.name()) {
-        uses.push(Use { place, value })?;
     }
     Ok(())
 }

@@ -4,7 +4,7 @@ use crate::place::Place;
 use xp_file::{GROUP_KEYS, Key, LINE_KEYS, REDIRECT_KEYS, STATION_KEYS, TOP_KEYS};
 
 /// The keys that the table at this place may have.
-pub(crate) fn keys_at(place: Place<'_>) -> &'static [Key] {
+fn keys_at(place: Place<'_>) -> &'static [Key] {
     match place {
         Place::Top(_) => &TOP_KEYS,
         Place::Station(_, _) => &STATION_KEYS,
@@ -12,6 +12,16 @@ pub(crate) fn keys_at(place: Place<'_>) -> &'static [Key] {
         Place::Group(_, _, _, _) => &GROUP_KEYS,
         Place::Redirection(_, _, _) => &REDIRECT_KEYS,
     }
+}
+
+/// Whether the table at this place may have a key of this name.
+pub(crate) fn may_have(place: Place<'_>, name: &str) -> bool {
+    for key in keys_at(place) {
+        if key.name() == name {
+            return true;
+        }
+    }
+    false
 }
 
 /// What the value of this key has to be at this place, in words.

@@ -67,13 +67,7 @@ impl Failure {
     pub fn tell(&self, rt: &impl Eprint) -> io::Result<()> {
         match self {
             Failure::Command(failure) => failure.tell(rt),
-            Failure::Cdr(_)
-            | Failure::Live(_)
-            | Failure::Trace(_)
-            | Failure::TraceLines(_)
-            | Failure::Console(_)
-            | Failure::Explained(_, _) => rt.eprintln(self),
-            Failure::Serve(failure) => rt.eprintln(failure),
+            _ => rt.eprintln(self),
         }
     }
 }

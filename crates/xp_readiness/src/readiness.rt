@@ -40,19 +40,25 @@ pub fn refusal_warning<R: AllocGlobal + Net>(
     form: CheckForm,
 ) -> Result<String, AllocError> {
     let alloc = rt.alloc();
-    let refusal = match form {
-        CheckForm::Words => check_serving(subs).err(),
+    let reason = match form {
+        CheckForm::Words => refusal_reason(rt, subs),
         CheckForm::Counts => None,
     };
-    match refusal.map(|failure| explained(rt, subs, failure)) {
-        Some(Failure::Explained(_, reason)) => {
-            format!(in alloc; "warning: xp serve refuses this file: {reason}\n")
-        }
-        _ => Ok(String::new(alloc)),
+    match reason {
+        Some(reason) => format!(in alloc; "warning: xp serve refuses this file: {reason}\n"),
+        None => Ok(String::new(alloc)),
     }
 }
 
-/// The failure of a port, with its address and what the system told.
+/// Why serving refuses these subscriptions, where it does and that is found.
+fn refusal_reason<R: AllocGlobal + Net>(rt: &R, subs: &Subs) -> Option<String> {
+    match check_serving(subs) {
+        Ok(_) => None,
+        Err(failure) => reason_of(rt, subs, &failure),
+    }
+}
+
+/// The failure of a port, with its address and what the system told, if there was memory for that text.
 fn of_port(alloc: Global, fault: PortFault) -> Failure {
     let reason = format!(in alloc; "{fault}");
     let PortFault {
@@ -60,11 +66,6 @@ fn of_port(alloc: Global, fault: PortFault) -> Failure {
         at: _,
         error: _,
     } = fault;
-    with_reason(failure, reason)
-}
-
-/// The failure with this reason, if there was memory for its text.
-fn with_reason(failure: ServeFailure, reason: Result<String, AllocError>) -> Failure {
     match reason {
         Ok(reason) => Failure::Explained(failure, reason),
         Err(_) => Failure::Serve(failure),
@@ -73,18 +74,26 @@ fn with_reason(failure: ServeFailure, reason: Result<String, AllocError>) -> Fai
 
 /// Why lines of these subscriptions were not served, with which, where and why if that is found. A port is tried once more for this.
 pub fn explained<R: AllocGlobal + Net>(rt: &R, subs: &Subs, failure: ServeFailure) -> Failure {
+    match reason_of(rt, subs, &failure) {
+        Some(reason) => Failure::Explained(failure, reason),
+        None => Failure::Serve(failure),
+    }
+}
+
+/// Which, where and why lines of these subscriptions were not served, if that is found and there is memory for its text.
+fn reason_of<R: AllocGlobal + Net>(rt: &R, subs: &Subs, failure: &ServeFailure) -> Option<String> {
     let alloc = rt.alloc();
-    let reason = match &failure {
+    let reason = match failure {
         ServeFailure::Host => format!(in alloc;
             "host = {:?}: neither localhost nor an IP address",
             subs.host()
         ),
         ServeFailure::From(name) => strange_source(alloc, subs, name.as_str()),
         ServeFailure::Router(name) => strange_router(alloc, subs, name.as_str()),
-        ServeFailure::Port(_) | ServeFailure::XotPort => return of_ports(rt, subs, failure),
-        _ => return Failure::Serve(failure),
+        ServeFailure::Port(_) | ServeFailure::XotPort => return reason_of_port(rt, subs, failure),
+        _ => return None,
     };
-    with_reason(failure, reason)
+    reason.ok()
 }
 
 /// The source of the line with this name from which no connection can come.
@@ -127,14 +136,18 @@ fn strange_router(alloc: Global, subs: &Subs, name: &str) -> Result<String, Allo
     }
 }
 
-/// The failure of a port, with what the system tells of it now, or the line that has the port for routers too.
-fn of_ports<R: AllocGlobal + Net>(rt: &R, subs: &Subs, failure: ServeFailure) -> Failure {
-    match check_serving(subs) {
-        Ok(host) => match try_ports(rt, subs, host) {
-            Err(fault) if fault.failure == failure => of_port(rt.alloc(), fault),
-            _ => Failure::Serve(failure),
-        },
-        Err(_) => with_reason(failure, shared_port(rt.alloc(), subs)),
+/// What the system tells now of a port that failed so, or the line that has the port for routers too.
+fn reason_of_port<R: AllocGlobal + Net>(
+    rt: &R,
+    subs: &Subs,
+    failure: &ServeFailure,
+) -> Option<String> {
+    let Ok(host) = check_serving(subs) else {
+        return shared_port(rt.alloc(), subs).ok();
+    };
+    match try_ports(rt, subs, host) {
+        Err(fault) if fault.failure == *failure => format!(in rt.alloc(); "{fault}").ok(),
+        _ => None,
     }
 }
 

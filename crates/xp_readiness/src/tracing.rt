@@ -2,7 +2,7 @@
 
 use crate::failure::Failure;
 use log::Log;
-use std::alloc::{AllocGlobal, Global};
+use std::alloc::{AllocError, AllocGlobal, Global};
 use std::fs::{File, Files};
 use std::io::BufWriter;
 use std::sync::{Arc, Wait};
@@ -70,7 +70,7 @@ impl<R: AllocGlobal + Copy + Drop + Log + Send + Threads + Wait + 'static> Traci
 fn trace_of(alloc: Global, order: &TraceOrder<'_>, subs: &Subs) -> Result<Arc<Trace>, Failure> {
     let lines = traced_lines(alloc, order, subs).map_err(failure_of_names)?;
     let trace = Trace::new(alloc, lines, subs.counts().lines)?;
-    Ok(Arc::new(alloc, trace).map_err(|_| TaskFailure::Memory)?)
+    Ok(Arc::new(alloc, trace).map_err(AllocError::from)?)
 }
 
 /// What writes a trace to its file.

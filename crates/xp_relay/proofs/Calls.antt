@@ -1,13 +1,13 @@
 -- From a turn of two stored directions to a turn of the call.
-use Rattle.std.proofs.Common.{◌≡◌, List, [], sym, subst}
+use Rattle.std.proofs.Common.{◌≡◌, List, sym, subst}
 use Rattle.xp_packets.specs.declared.end.End.{End}
 use Rattle.xp_packets.specs.declared.end.End.TheVariants.{Caller, Called}
 use Rattle.xp_relay.specs.declared.moves.Move.{Move}
 use Rattle.xp_relay.specs.Coupled.{Coupled}
-use Rattle.xp_relay.specs.StoredCoupled.{Follows, StoredDirections, RepresentsCall}
+use Rattle.xp_relay.specs.StoredCoupled.{Follows, StoredDirections}
 use Rattle.xp_relay.specs.Direction.{Direction}
 use Rattle.xp_relay.specs.steps.StoredDirection.{RepresentsTurn}
-use Rattle.xp_relay.specs.Turns.{Turn, unchanged}
+use Rattle.xp_relay.specs.Turns.{Turn}
 
 pub follows_caller : {A : Type 0} (here : End) → here ≡ Caller → (turn : Direction A → Direction A → Turn A) (call : Coupled A) (new : StoredDirections A) (made : List (Move A)) → RepresentsTurn new.from_caller new.from_called made (turn call.from_caller call.from_called) → Follows here turn call new made
 follows_caller here is turn call new made h =
@@ -18,11 +18,3 @@ pub follows_called : {A : Type 0} (here : End) → here ≡ Called → (turn : D
 follows_called here is turn call new made h =
     let at_called : Follows Called turn call new made = record { shown = record { from_caller = h.received; from_called = h.sent }; moves = h.moves } in
     subst (λ end. Follows end turn call new made) (sym is) at_called
-
-still_at : {A : Type 0} (here : End) (call : Coupled A) (k : StoredDirections A) (made : List (Move A)) → RepresentsCall k call → made ≡ [] → Follows here unchanged call k made
-still_at Caller call k made h e = record { shown = record { from_caller = h.from_caller; from_called = h.from_called }; moves = e }
-still_at Called call k made h e = record { shown = record { from_caller = h.from_caller; from_called = h.from_called }; moves = e }
-
--- a turn that changes nothing
-pub follows_unchanged : {A : Type 0} (here : End) (turn : Direction A → Direction A → Turn A) → turn ≡ unchanged → (call : Coupled A) (k : StoredDirections A) (made : List (Move A)) → RepresentsCall k call → made ≡ [] → Follows here turn call k made
-follows_unchanged here turn is call k made h e = subst (λ t. Follows here t call k made) (sym is) (still_at here call k made h e)

@@ -4,7 +4,7 @@ use std::alloc::{AllocError, Allocator, Global};
 use xp_packets::Octets;
 
 /// A data packet without P(S) and P(R), since each line has its own numbers (X.25 clause 5.3.1).
-#[derive(Clone, Drop)]
+#[derive(Drop)]
 pub struct Data<A: Allocator = Global> {
     /// The Q bit.
     pub q: bool,
@@ -26,7 +26,7 @@ pub struct SequenceNumbers {
 }
 
 /// The state of the interrupt that one end sends (X.25 clause 4.3.7).
-#[derive(Clone, Drop)]
+#[derive(Drop)]
 pub enum Interruption<A: Allocator = Global> {
     /// There is no interrupt.
     Idle,
@@ -41,7 +41,12 @@ impl<A: Allocator + Copy> Data<A> {
     pub fn copy(&self) -> Result<Data<A>, AllocError>
         ensures { IfOk result (λ copied. copied ≡ self.now) }
     {
-        self.clone()
+        Ok(Data {
+            q: self.q,
+            d: self.d,
+            more: self.more,
+            octets: self.octets.copy()?,
+        })
     }
 }
 
@@ -50,6 +55,10 @@ impl<A: Allocator + Copy> Interruption<A> {
     pub fn copy(&self) -> Result<Interruption<A>, AllocError>
         ensures { IfOk result (λ copied. copied ≡ self.now) }
     {
-        self.clone()
+        match self {
+            Interruption::Idle => Ok(Interruption::Idle),
+            Interruption::Held(octets) => Ok(Interruption::Held(octets.copy()?)),
+            Interruption::PutOut => Ok(Interruption::PutOut),
+        }
     }
 }

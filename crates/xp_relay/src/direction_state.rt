@@ -20,7 +20,6 @@ mod putting;
 
 /// The stored state of a direction: numbers in place of counts, and the packets that wait. The queue has room for a
 /// whole window.
-#[derive(Drop)]
 pub(crate) struct DirectionState<A: Allocator = Global> {
     terms: DirectionTerms,
     /// P(R) to the sender.
@@ -33,6 +32,21 @@ pub(crate) struct DirectionState<A: Allocator = Global> {
     interrupt: Interruption<A>,
     ready: bool,
     owes: bool,
+}
+
+impl<A: Allocator> Drop for DirectionState<A> {
+    fn drop(self) {
+        let DirectionState {
+            terms: _,
+            pr: _,
+            oldest: _,
+            out: _,
+            held: _,
+            interrupt: _,
+            ready: _,
+            owes: _,
+        } = self;
+    }
 }
 
 impl<A: Allocator> Model for DirectionState<A> {

@@ -1,5 +1,5 @@
 /// The decision on a data packet.
-#[derive(Clone, Copy, PartialEq, Eq)]
+#[derive(Clone, Copy)]
 pub enum Judged {
     /// It is accepted.
     Accept,

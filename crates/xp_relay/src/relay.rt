@@ -1,25 +1,21 @@
-ghost use Rattle.std.specs.Prelude.{◌≡◌, ◌≤◌, [], IfOk, OnOk, length};
+ghost use Rattle.std.specs.Prelude.{◌≡◌, ◌≤◌, [], IfOk, OnErr, OnOk};
 ghost use Rattle.xp_relay.specs.Coupled.{Coupled, coupled, received_by, sent_by, state_at};
 ghost use Rattle.xp_relay.specs.StoredCoupled.{Follows, RepresentsCall};
 ghost use Rattle.xp_relay.specs.Judgement.{judgement};
 ghost use Rattle.xp_relay.specs.Terms.{IsWithinTerms};
-ghost use Rattle.xp_relay.specs.Turns.{carries, flow, interrupt, interrupt_confirm, reject, reset, reset_confirm};
+ghost use Rattle.xp_relay.specs.Turns.{turn_of};
 
-use crate::data::{Data, SequenceNumbers};
+use crate::data::SequenceNumbers;
 use crate::direction_state::DirectionState;
 use crate::judged::Judged;
 use crate::moves::Moves;
 use crate::state::FlowState;
 use crate::terms::Terms;
-use crate::turns::data_packets::{carry, judge};
-use crate::turns::flow_control::flow;
-use crate::turns::interrupting::{interrupt, interrupt_confirm};
-use crate::turns::resetting::{reject, reset, reset_confirm};
+use crate::turns::data_packets::judge;
+use crate::turns::turn;
 use std::alloc::{AllocError, Allocator, Global};
 use std::marker::Model;
-use xp_packets::{End, Octets};
-
-mod taking;
+use xp_packets::{End, Packet};
 
 /// What a live call carries between its ends. The methods that make or copy a relay allocate the room for the packets
 /// that can wait. The caller passes the other methods the room for their moves.
@@ -85,6 +81,37 @@ impl<A: Allocator + Copy> Relay<A> {
         self.from_caller.renew(terms.terms_from(End::Caller))?;
         self.from_called.renew(terms.terms_from(End::Called))
     }
+
+    /// Takes any packet of this end. Packets of call set-up and clearing change nothing. Only a data packet and an
+    /// interrupt can run out of memory, since they share their octets with the relay; then nothing changes.
+    pub fn take(
+        &mut self,
+        here: End,
+        packet: &Packet<A>,
+        room: Moves<A>,
+    ) -> Result<Moves<A>, AllocError>
+        requires empty { room.moves ≡ [] }
+        requires space { 17 ≤ room.room }
+        ensures ok { IfOk result (λ made. (call : Coupled A) → RepresentsCall self.old call → Follows here (turn_of here packet.now) call self.new made.moves) }
+        ensures err { OnErr result (self.new ≡ self.old) }
+    {
+        match here {
+            End::Caller => turn(
+                here,
+                packet,
+                &mut self.from_caller,
+                &mut self.from_called,
+                room,
+            ),
+            End::Called => turn(
+                here,
+                packet,
+                &mut self.from_called,
+                &mut self.from_caller,
+                room,
+            ),
+        }
+    }
 }
 
 impl<A: Allocator> Relay<A> {
@@ -106,166 +133,6 @@ impl<A: Allocator> Relay<A> {
         match here {
             End::Caller => judge(numbers, octets, &self.from_caller, &self.from_called),
             End::Called => judge(numbers, octets, &self.from_called, &self.from_caller),
-        }
-    }
-
-    /// Takes a data packet of this end, with these numbers (X.25 clause 4.4.1).
-    pub fn data(
-        &mut self,
-        here: End,
-        carried: Data<A>,
-        numbers: SequenceNumbers,
-        room: Moves<A>,
-    ) -> Moves<A>
-        requires empty { room.moves ≡ [] }
-        requires space { 17 ≤ room.room }
-        ensures { (call : Coupled A) → RepresentsCall self.old call → Follows here (carries here carried numbers.ps numbers.pr) call self.new result.moves }
-    {
-        match here {
-            End::Caller => carry(
-                here,
-                carried,
-                numbers,
-                &mut self.from_caller,
-                &mut self.from_called,
-                room,
-            ),
-            End::Called => carry(
-                here,
-                carried,
-                numbers,
-                &mut self.from_called,
-                &mut self.from_caller,
-                room,
-            ),
-        }
-    }
-
-    /// Takes RR, or RNR where this end is not `ready` (clauses 4.4.1.4 and 4.4.1.5).
-    pub fn flow(&mut self, here: End, ready: bool, pr: u8, room: Moves<A>) -> Moves<A>
-        requires empty { room.moves ≡ [] }
-        requires space { 17 ≤ room.room }
-        ensures { (call : Coupled A) → RepresentsCall self.old call → Follows here (flow here ready pr) call self.new result.moves }
-    {
-        match here {
-            End::Caller => flow(
-                here,
-                ready,
-                pr,
-                &mut self.from_caller,
-                &mut self.from_called,
-                room,
-            ),
-            End::Called => flow(
-                here,
-                ready,
-                pr,
-                &mut self.from_called,
-                &mut self.from_caller,
-                room,
-            ),
-        }
-    }
-
-    /// Takes REJ.
-    pub fn reject(&mut self, here: End, room: Moves<A>) -> Moves<A>
-        requires empty { room.moves ≡ [] }
-        requires space { 17 ≤ room.room }
-        ensures { (call : Coupled A) → RepresentsCall self.old call → Follows here (reject here) call self.new result.moves }
-    {
-        match here {
-            End::Caller => reject(here, &mut self.from_caller, &mut self.from_called, room),
-            End::Called => reject(here, &mut self.from_called, &mut self.from_caller, room),
-        }
-    }
-
-    /// Takes an interrupt (clause 4.3.7).
-    pub fn interrupt(&mut self, here: End, octets: Octets<A>, room: Moves<A>) -> Moves<A>
-        requires empty { room.moves ≡ [] }
-        requires space { 17 ≤ room.room }
-        ensures { (call : Coupled A) → RepresentsCall self.old call → Follows here (interrupt here octets) call self.new result.moves }
-    {
-        match here {
-            End::Caller => interrupt(
-                here,
-                octets,
-                &mut self.from_caller,
-                &mut self.from_called,
-                room,
-            ),
-            End::Called => interrupt(
-                here,
-                octets,
-                &mut self.from_called,
-                &mut self.from_caller,
-                room,
-            ),
-        }
-    }
-
-    /// Takes an interrupt confirmation (clause 4.3.7).
-    pub fn interrupt_confirm(&mut self, here: End, room: Moves<A>) -> Moves<A>
-        requires empty { room.moves ≡ [] }
-        requires space { 17 ≤ room.room }
-        ensures { (call : Coupled A) → RepresentsCall self.old call → Follows here (interrupt_confirm here) call self.new result.moves }
-    {
-        match here {
-            End::Caller => interrupt_confirm(
-                here,
-                &mut self.from_caller,
-                &mut self.from_called,
-                room,
-            ),
-            End::Called => interrupt_confirm(
-                here,
-                &mut self.from_called,
-                &mut self.from_caller,
-                room,
-            ),
-        }
-    }
-
-    /// Takes a reset request (clause 4.4.3.1).
-    pub fn reset(
-        &mut self,
-        here: End,
-        cause: u8,
-        diagnostic: Option<u8>,
-        room: Moves<A>,
-    ) -> Moves<A>
-        requires empty { room.moves ≡ [] }
-        requires space { 17 ≤ room.room }
-        ensures { (call : Coupled A) → RepresentsCall self.old call → Follows here (reset here cause diagnostic) call self.new result.moves }
-    {
-        match here {
-            End::Caller => reset(
-                here,
-                cause,
-                diagnostic,
-                &mut self.from_caller,
-                &mut self.from_called,
-                room,
-            ),
-            End::Called => reset(
-                here,
-                cause,
-                diagnostic,
-                &mut self.from_called,
-                &mut self.from_caller,
-                room,
-            ),
-        }
-    }
-
-    /// Takes a reset confirmation (clause 4.4.3.4).
-    pub fn reset_confirm(&mut self, here: End, room: Moves<A>) -> Moves<A>
-        requires empty { room.moves ≡ [] }
-        requires space { 17 ≤ room.room }
-        ensures { (call : Coupled A) → RepresentsCall self.old call → Follows here (reset_confirm here) call self.new result.moves }
-    {
-        match here {
-            End::Caller => reset_confirm(here, &mut self.from_caller, &mut self.from_called, room),
-            End::Called => reset_confirm(here, &mut self.from_called, &mut self.from_caller, room),
         }
     }
 }

@@ -4,7 +4,7 @@ ghost use Rattle.xp_relay.specs.Terms.{AreDirectionTerms, IsWithinTerms, terms_f
 use xp_packets::{End, Modulus};
 
 /// What was agreed for the data that one end sends.
-#[derive(Clone, Copy, PartialEq, Eq)]
+#[derive(Clone, Copy)]
 pub struct Agreed {
     /// The packet size, as a power of two: 4 to 10 (clauses 6.12 and 7.2.2.1).
     pub size: u8,
@@ -13,7 +13,7 @@ pub struct Agreed {
 }
 
 /// What was agreed when the call was set up, with the numbering of both lines.
-#[derive(Clone, Copy, PartialEq, Eq)]
+#[derive(Clone, Copy)]
 pub struct Terms {
     /// For what the caller sends.
     pub from_caller: Agreed,
@@ -26,7 +26,7 @@ pub struct Terms {
 }
 
 /// The terms of one direction of a call.
-#[derive(Clone, Copy, PartialEq, Eq)]
+#[derive(Clone, Copy)]
 pub struct DirectionTerms {
     /// The packet size, as a power of two.
     pub size: u8,

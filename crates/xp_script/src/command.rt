@@ -36,7 +36,7 @@ const AT: &[u8] = b"at";
 const TABLES: &[u8] = b"tables";
 
 /// What a line of a script asks for.
-#[derive(Drop, PartialEq)]
+#[derive(Drop)]
 pub enum Command<A: Allocator = Global> {
     /// Nothing: an empty line or a comment.
     Nothing,

@@ -39,18 +39,3 @@ impl<A: Allocator> InputOctets<A> {
         self.octets
     }
 }
-
-impl<A: Allocator> PartialEq for InputOctets<A> {
-    ghost use Rattle.std.specs.Cmp.Lexicographic.{pointwise};
-    ghost use Rattle.std.specs.Prelude.{◌==◌};
-    ghost use Rattle.std.proofs.Common.{rules};
-    ghost use Rattle.std.specs.Cmp.Rules.{comparing};
-
-    ghost eq = { λ a b. pointwise ◌==◌ a b };
-
-    ghost laws = { Prim.search (comparing, rules) };
-
-    fn eq(&self, other: &InputOctets<A>) -> bool {
-        self.as_slice() == other.as_slice()
-    }
-}

@@ -8,7 +8,7 @@ use xp_subs::{LineNo, Subs};
 const TABLES: &[u8] = b"tables";
 
 /// What a line of a script wants behind its first word.
-#[derive(Clone, Copy, PartialEq, Eq)]
+#[derive(Clone, Copy)]
 pub(crate) enum Form {
     /// The name of a line.
     Line,

@@ -1,5 +1,5 @@
 -- Lists of views, and of what a line handed in.
-use Rattle.std.proofs.Common.{◌≡◌, ◌≢◌, ℕ, zero, suc, List, [], ◌∷◌, ◌++◌, length, set, sym, refl, ap, subst, inl, inr, ◌⊎◌, ⊎_elim}
+use Rattle.std.proofs.Common.{arith, ◌≡◌, ◌≢◌, ℕ, zero, suc, List, [], ◌∷◌, ◌++◌, length, set, sym, refl, ap, inl, inr, ◌⊎◌, ⊎_elim}
 use Rattle.std.proofs.lemmas.List.Elements.{filter-append}
 use mathlib.Core.Option.{some, some-injective, some-ne-none}
 use lib.ListN.{get_elem?}
@@ -19,14 +19,11 @@ module _ {X : Type 0} where
 
   -- after a write, of the one written and of all others
   pub each_set : (F : ℕ → X → Type 0) (xs : List X) (at : ℕ) (x : X) → F at x → ((j : ℕ) (y : X) → j ≢ at → get_elem? xs j ≡ some y → F j y) → Each F (set xs at x)
-  each_set F xs at x own_entries others j y e =
-      ⊎_elim (λ (t : (j ≡ at) × (x ≡ y)). subst (λ (p : ℕ × X). F p.0 p.1) (λ i. (sym t.0 i, t.1 i)) own_entries)
-      (λ (t : (j ≢ at) × (get_elem? xs j ≡ some y)). others j y t.0 t.1) (at_set xs at j x y e)
+  each_set F xs at x own_entries others j y e = grind (arith, at_set)
 
   -- after one more was put last
   pub each_new : (F : ℕ → X → Type 0) (xs : List X) (x : X) → F (length xs) x → Each F xs → Each F (xs ++ x ∷ [])
-  each_new F xs x own_entries others j y e =
-      ⊎_elim (λ t. others j y t) (λ (t : (j ≡ length xs) × (x ≡ y)). subst (λ (p : ℕ × X). F p.0 p.1) (λ i. (sym t.0 i, t.1 i)) own_entries) (at_new xs x y j e)
+  each_new F xs x own_entries others j y e = grind (arith, at_new)
 
 module _ {A : Type 0} where
   pub handed-append : (line : ℕ) (xs ys : List (Entry A)) → handed line (xs ++ ys) ≡ handed line xs ++ handed line ys

@@ -1,5 +1,5 @@
 -- Each step on the seats keeps their rule.
-use Rattle.std.proofs.Common.{◌≡◌, ◌≢◌, ℕ, ◌<◌, true, false, true≢false, cond, eqb, Option, Some, None, List, [], ◌∷◌, ◌++◌, length, set, sym, refl, ap, ◌∙◌, inl, inr, ⊎_elim, arith, eq-eqb}
+use Rattle.std.proofs.Common.{◌≡◌, ◌≢◌, ℕ, ◌<◌, true, false, true≢false, cond, eqb, Option, Some, None, List, [], ◌∷◌, ◌++◌, length, set, sym, refl, ap, ◌∙◌, ⊎_elim, arith, eq-eqb}
 use Rattle.std.proofs.lemmas.Bool.{cases_lt, ne_eqb}
 use Rattle.std.proofs.lemmas.List.{get_or_append_left, get_or_past, get_or_push, get_or-set_other, get_or-set_same}
 use Rattle.std.proofs.lemmas.Option.{none-some}
@@ -31,10 +31,7 @@ given_else owner holder seat other apart = ap (λ b. cond b seat (owner other)) 
 module _ {A : Type 0} where
   -- a holder of whom something is known is there
   is_there : (known : List (Option (List (Entry A)))) (holder : ℕ) (seen : List (Entry A)) → seen_by known holder ≡ Some seen → holder < length known
-  is_there known holder seen is = elim (cases_lt holder (length known)) [
-    | inl within ↦ within
-    | inr past ↦ absurd (none-some seen (sym (get_or_past known holder None past) ∙ is))
-  ]
+  is_there known holder seen is = grind (arith, cases_lt, get_or_past, none-some)
 
   pub begins : IsShared {A = A} (keeping [] ∷ [])
   begins = record {

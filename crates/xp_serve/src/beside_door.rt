@@ -13,7 +13,7 @@ use std::thread;
 use std::thread::{JoinHandle, Scope, Threads};
 use xp_limits::Limits;
 use xp_lines::{EndReason, LinesServed, LinesToServe, RecordPath, ServeFault, serve_all};
-use xp_links::{Clock, Link, Poller, Port};
+use xp_links::{Bell, Clock, Link, Poller, Port};
 use xp_lock::Exchange;
 use xp_seats::Name;
 use xp_sink::RecordSink;
@@ -21,8 +21,8 @@ use xp_tcp::Door;
 
 /// What the threads of all lines are given, and the door of the lines behind routers, if there are any.
 #[derive(Drop)]
-pub struct LinesAndDoor<N: Name, P: Port, C: Clock, T: Poller> {
-    pub lines: LinesToServe<N, P, C, T>,
+pub struct LinesAndDoor<N: Name, P: Port, C: Clock, B: Bell, T: Poller> {
+    pub lines: LinesToServe<N, P, C, B, T>,
     pub door: Option<Door>,
 }
 
@@ -35,6 +35,7 @@ pub(crate) fn serve_with_door<
     N: Name + Send + Sync,
     P: Port + Send,
     C: Clock + Send,
+    B: Bell + Send,
     T: Poller + Send,
     R: Net<Listener = TcpListener, Stream = TcpStream> + Threads + Wait + Sync,
     S: RecordSink,
@@ -42,10 +43,10 @@ pub(crate) fn serve_with_door<
     rt: &R,
     alloc: Global,
     exchange: &Exchange<N>,
-    threads: LinesAndDoor<N, P, C, T>,
+    threads: LinesAndDoor<N, P, C, B, T>,
     path: RecordPath<N, S>,
     limits: Limits,
-) -> Result<LinesServed<N, S>, ServeFault<N, P, C, S>>
+) -> Result<LinesServed<N, S>, ServeFault<N, P, C, B, S>>
     requires lines { S.lines path.sink ≡ line_count N.subs }
     requires tables { S.tables path.sink ≡ N.subs }
     requires received { S.received path.sink ≡ path.recorder.received }
@@ -67,7 +68,7 @@ pub(crate) fn serve_with_door<
     thread::scope(
         thread::scope_env(),
         rt,
-        |scope| -> Result<LinesServed<N, S>, ServeFault<N, P, C, S>>
+        |scope| -> Result<LinesServed<N, S>, ServeFault<N, P, C, B, S>>
             requires lines { S.lines path.sink ≡ line_count N.subs }
             requires tables { S.tables path.sink ≡ N.subs }
             requires received { S.received path.sink ≡ path.recorder.received }

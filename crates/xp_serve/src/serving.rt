@@ -30,7 +30,7 @@ use xp_lock::{Exchange, LinePass, PreparedExchange, prepare};
 use xp_seats::{Name, Recorder};
 use xp_sink::RecordSink;
 use xp_subs::Subs;
-use xp_tcp::{Ends, LinePlaces, LinePort, Sockets, TcpClock, TcpPoller};
+use xp_tcp::{Ends, LineBell, LineEnds, LinePlaces, LinePort, Sockets, TcpClock, TcpPoller};
 
 /// How many lines are few enough for one thread.
 const LINES_OF_A_THREAD: usize = 8;
@@ -293,10 +293,10 @@ fn make_ready<N: Name>(
 }
 
 /// What a line is served with over TCP.
-pub type TcpLine<N> = LineInputs<N, LinePort, TcpClock>;
+pub type TcpLine<N> = LineInputs<N, LinePort, TcpClock, LineBell>;
 
 /// What the threads of all lines are given over TCP.
-pub type TcpThreads<N> = LinesAndDoor<N, LinePort, TcpClock, TcpPoller>;
+pub type TcpThreads<N> = LinesAndDoor<N, LinePort, TcpClock, LineBell, TcpPoller>;
 
 /// What the threads of the lines are given, in the order of lines: each line its own pass and port.
 ///
@@ -320,10 +320,15 @@ pub fn thread_inputs<N: Name>(
     } = sockets.into_ends(alloc)?;
     let mut ends = lines.into_iter();
     for pass in passes {
-        let Some((port, clock)) = ends.next() else {
+        let Some(LineEnds { port, clock, bell }) = ends.next() else {
             unreachable!()
         };
-        served.push(LineInputs { pass, port, clock })?;
+        served.push(LineInputs {
+            pass,
+            port,
+            clock,
+            bell,
+        })?;
     }
     Ok(LinesAndDoor {
         lines: LinesToServe {

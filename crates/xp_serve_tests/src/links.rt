@@ -32,8 +32,8 @@ fn ends_of<R: Net>(rt: &R, alloc: Global) -> Result<Ends, Fail> {
 
 /// What comes of a clear request on the link of the first line.
 fn pushed(ends: &mut Ends) -> Option<Pushed> {
-    let (port, _clock) = ends.lines.first_mut()?;
-    match port.next() {
+    let line = ends.lines.first_mut()?;
+    match line.port.next() {
         Arrived::Came(mut link) => Some(link.push(CLEAR)),
         _ => None,
     }

@@ -11,7 +11,7 @@ use Rattle.xp_answer.specs.declared.terms.Terms.{Terms}
 use Rattle.xp_decide.proofs.Written.{told_sizes}
 use Rattle.xp_decide.specs.Indicated.{IndicatesSizes}
 use Rattle.xp_packets.specs.declared.modulus.Modulus.{Modulus}
-use Rattle.xp_packets.specs.declared.modulus.Modulus.TheVariants.{Eight, Long}
+use Rattle.xp_packets.specs.declared.modulus.Modulus.TheVariants.{Long}
 use Rattle.xp_subs.specs.Tables.{Tables, line_count, modulus_of}
 use Rattle.xp_step.specs.declared.entry.Entry.{Entry}
 use Rattle.xp_step.specs.declared.event.What.{What}
@@ -34,23 +34,12 @@ use Rattle.xp_step.proofs.RunLemmas.{run_keeps}
 
 -- what is in its range on any line is in that of a line of modulo 128
 pub terms_long : (modulus : Modulus) (terms : Terms) → AreTerms modulus terms → AreTerms Long terms
-terms_long Long terms are = are
-terms_long Eight terms are = record {
-  packet = are.packet;
-  window = record {
-    called_least = are.window.called_least;
-    called_most = omega (arith, are.window.called_most);
-    calling_least = are.window.calling_least;
-    calling_most = omega (arith, are.window.calling_most);
-  };
-}
+terms_long modulus terms are = grind arith
 
 module _ {A : Type 0} (at : StepContext A) (what : What A) (moduli : (line : ℕ) → modulus_of at.force line ≡ modulus_of at.tables line) (here : AllHaveTerms at.tables at.world) where
   begun_terms : (modulus : Modulus) (line identifier called : ℕ) (dialled : List ℕ) (setup : Setup) (requested : ℕ) (from : IsBegun at what line identifier called dialled setup)
       → IndicatesSizes modulus from.ring.told → HasTerms modulus (record { caller = line; called = called; dialled = dialled; setup = setup; requested = requested; agreed = None })
-  begun_terms modulus line identifier called dialled setup requested from sizes =
-      let P : Setup → Type 0 = λ s. AreTerms modulus s.indicated in
-      record { indicated = subst P (sym from.setup_is) (indicated_terms modulus from.ring.told sizes); agreed = tt }
+  begun_terms modulus line identifier called dialled setup requested from sizes = grind (arith, indicated_terms)
 
   -- for the caller's line and for the called one
   both_begun : (line identifier called : ℕ) (dialled : List ℕ) (setup : Setup) (requested : ℕ) → IsBegun at what line identifier called dialled setup

@@ -1,5 +1,5 @@
 -- What is planned for a packet of a line.
-use Rattle.std.proofs.Common.{◌≡◌, ◌∙◌, ℕ, Bool, true, false, Result, Ok, Err, IfOk, Option, Some, None, option_map, is_none, List, [], ◌∷◌, map, refl, ap, sym, subst}
+use Rattle.std.proofs.Common.{arith, ◌≡◌, ◌∙◌, ℕ, Bool, true, false, Result, Ok, Err, IfOk, Option, Some, None, option_map, is_none, List, [], ◌∷◌, map, refl, ap, sym, subst}
 use Rattle.xp_causes.specs.declared.clearing_cause.TheConstants.{NETWORK_CONGESTION}
 use Rattle.xp_causes.specs.declared.diagnostic.TheConstants.{NO_ADDITIONAL_INFORMATION}
 use Rattle.xp_charge.specs.Counted.{Counted}
@@ -40,17 +40,14 @@ use Rattle.xp_step.proofs.Counting.{counted_here}
 use Rattle.xp_machine.proofs.InCall.{shown_on}
 
 pub some_of : {X : Type 0} (x : Option X) → is_none x ≡ false → (y : X) × (x ≡ Some y)
-some_of None is = absurd (cc)
-some_of (Some y) is = (y, refl)
+some_of x is = grind arith
 
 pub none_of : {X : Type 0} (x : Option X) → is_none x ≡ true → x ≡ None
-none_of None is = refl
-none_of (Some y) is = absurd (cc)
+none_of x is = grind arith
 
 -- two facts of a result
 pub both_ok : {X E : Type 0} (result : Result X E) (P Q R : X → Type 0) → ((x : X) → P x → Q x → R x) → IfOk result P → IfOk result Q → IfOk result R
-both_ok (Ok x) P Q R leads one other = leads x one other
-both_ok (Err fault) P Q R leads one other = tt
+both_ok result P Q R leads one other = grind arith
 
 module _ {A : Type 0} where
   abbrev carried_of : ℕ → ℕ × Call → Agreement → Packet A → RelayedPacket A
@@ -58,8 +55,7 @@ module _ {A : Type 0} where
       record { number = found.0; call = found.1; agreement = agreement; arrival = record { here = end_of found.1 line; packet = packet } }
 
   no_packet : (line : ℕ) (found : Option (ℕ × Call)) → relayed_by {A = A} line found None ≡ None
-  no_packet line None = refl
-  no_packet line (Some found) = refl
+  no_packet line found = grind arith
 
   -- the relay of a connected call is kept
   kept_under : (at : StepContext A) (call : LiveCall) → call_on at.world at.line ≡ Some (entry_of call) → (agreement : Agreement) → call.agreed ≡ Some agreement
@@ -86,18 +82,14 @@ module _ {A : Type 0} where
         × IsPlan plan at told (carries at.line (call_on at.world at.line) plan.outcome)
 
     planned_so : (c : Option (RelayedPacket A)) → by ≡ c → Planned c → PlansRelayed at what plan
-    planned_so c is planned =
-        let it = subst Planned (sym is) planned in
-        record { told = it.0; acts = it.1; relays = it.2; planned = it.3 }
+    planned_so c is planned = grind arith
 
     -- nothing changes
     abbrev quietly : EventOutputs A → Type 0
     quietly told = IsPlan plan at told (carries at.line (call_on at.world at.line) plan.outcome)
 
     still : (told : EventOutputs A) → plan.outcome ≡ Plain → IsPlan plan at told [] → quietly told
-    still told plain planned =
-        let P : Outcome → Type 0 = λ o. IsPlan plan at told (carries at.line (call_on at.world at.line) o) in
-        subst P (sym plain) planned
+    still told plain planned = grind arith
 
     nothing_carried : by ≡ None → plan.outcome ≡ Plain → plan.relay_update ≡ None → IsPlan plan at no_outputs [] → PlansRelayed at what plan
     nothing_carried none plain quiet planned =
@@ -148,9 +140,7 @@ module _ {A : Type 0} where
             → Counts kept.meter its.arrival.here (judged packet (sent_by its.arrival.here before) (received_by its.arrival.here before)) result
 
         counted_so : (result : Result Counted OverLimit) → Counting result → Counts meter its.arrival.here judged_it result
-        counted_so result counts =
-            let P : Counted → Type 0 = λ m. Counts m its.arrival.here judged_it result in
-            subst P it_shows.1 (counts shown it_shows.0)
+        counted_so result counts = grind (arith, it_shows)
 
         past_is : (past : Bool) → goes_past at.tables.segment_limit (counted_from its.arrival.here meter) judged_it ≡ past
             → is_past_limit at.tables at.before (Some its) ≡ past

@@ -1,5 +1,5 @@
 -- What is planned for a clear request and for an answer.
-use Rattle.std.proofs.Common.{◌≡◌, ◌∙◌, ◌<◌, ℕ, Option, Some, None, List, [], ◌∷◌, refl, ap, sym, subst}
+use Rattle.std.proofs.Common.{arith, ◌≡◌, ◌∙◌, ◌<◌, ℕ, Option, Some, None, List, [], ◌∷◌, refl, ap, sym, subst}
 use Rattle.xp_answer.specs.Answered.{Answered}
 use Rattle.xp_answer.specs.Terms.{AreSettled, AreTerms}
 use Rattle.xp_answer.specs.declared.answer.Answer.{Answer}
@@ -40,17 +40,11 @@ use Rattle.xp_step.proofs.Quiet.{leaves_quiet}
 
 module _ {A : Type 0} (at : StepContext A) (clear : ClearRequest A) (plan : Plan A) (far : List (Output A)) where
   confirms_as : (found : Option (ℕ × Call)) → plan.outcome ≡ Plain → IsToldOn at clear found far → IsConfirmed at clear found plan.outcome (outputs_of_clear at found far)
-  confirms_as None plain told = (plain, ap (outputs_of_clear at None) told)
-  confirms_as (Some found) plain told = record { plain = plain; packet = told.0; carried = told.1; told_is = ap (outputs_of_clear at (Some found)) told.2 }
+  confirms_as found plain told = grind arith
 
   pub confirmed : plan.outcome ≡ Plain → plan.relay_update ≡ None → IsToldOn at clear (call_on at.world at.line) far
       → IsPlan plan at (outputs_of_clear at (call_on at.world at.line) far) (confirms at.line (Some clear) (call_on at.world at.line)) → PlansClear at clear plan
-  confirmed plain quiet told planned = record {
-    told = outputs_of_clear at (call_on at.world at.line) far;
-    acts = confirms_as (call_on at.world at.line) plain told;
-    relays = leaves_quiet at.tables at.line _ _ _ (call_on at.world at.line) plan.relay_update quiet;
-    planned = planned;
-  }
+  confirmed plain quiet told planned = grind (arith, confirms_as, leaves_quiet)
 
 module _ {A : Type 0} (at : StepContext A) (answer : CallAccepted A) (plan : Plan A) where
   abbrev Acts : EventOutputs A → Option (ℕ × Call) → Outcome → Type 0
@@ -78,9 +72,7 @@ module _ {A : Type 0} (at : StepContext A) (answer : CallAccepted A) (plan : Pla
     IsGiven a = Answered call.setup (address_of at.force at.line) call.dialled answer.d answer.block a
 
     given_is : (a : Answer A) → given ≡ a → IsGiven a
-    given_is a same =
-        let P : List ℕ → Type 0 = λ place. Answered call.setup place call.dialled answer.d answer.block given in
-        subst IsGiven same (subst P (address_is ∙ ap (λ t. address_of t at.line) in_force) answered)
+    given_is a same = grind arith
 
     pub connected : (connection : Connection A) → given ≡ answers.Connected connection → plan.outcome ≡ Connected (agreement_of at.moment connection)
         → IsRelayed (call_of_stored call) (coupled (relay_terms at.tables (call_of_stored call) (agreement_of at.moment connection))) (opening at.tables.segment_limit) plan.relay_update
@@ -91,12 +83,7 @@ module _ {A : Type 0} (at : StepContext A) (answer : CallAccepted A) (plan : Pla
         record {
           relays = subst (λ found. Settled found plan.outcome) is (subst (Settled (Some (entry_of call))) (sym outcome) relayed);
           told = told;
-          acts = subst (λ found. Acts told found plan.outcome) is (subst (Acts told (Some (entry_of call))) (sym outcome) (record {
-            connection = connection;
-            answered = given_is (answers.Connected connection) same;
-            agreement_is = refl;
-            told_is = refl;
-          }));
+          acts = grind (arith, given_is);
           planned = subst (λ found. Planned told found plan.outcome) is (subst (Planned told (Some (entry_of call))) (sym outcome) planned);
         }
 
@@ -128,10 +115,7 @@ module _ (tables : Tables) (world : World) (line : ℕ) (call : LiveCall) (is : 
   pub settled_within : AllHaveTerms tables world → (agreement : Agreement)
       → ((modulus : Modulus) → AreTerms modulus call.setup.indicated → AreSettled modulus call.setup.indicated agreement.terms)
       → IsWithinTerms (relay_terms tables (call_of_stored call) agreement)
-  settled_within terms agreement settled =
-      let both = its_terms terms in
-      terms_within agreement (modulus_of tables call.caller) (modulus_of tables call.called)
-      (settled (modulus_of tables call.caller) both.0.indicated).sizes (settled (modulus_of tables call.called) both.1.indicated).sizes
+  settled_within terms agreement settled = grind (arith, indicated, its_terms, terms_within)
 
   -- its lines are those of the subscriptions
   its_ends : AreCoupled tables world → IsHeld tables world call.number (call_of_stored call)
@@ -146,9 +130,7 @@ module _ (tables : Tables) (world : World) (line : ℕ) (call : LiveCall) (is : 
 -- with another outcome the rest of a plan is the same
 pub settled_otherwise : {A : Type 0} (plan : Plan A) (outcome : Outcome) (next : Plan A) (at : StepContext A) (told : EventOutputs A) (changes : List Change)
     → next ≡ record plan { outcome = outcome } → IsPlainPlan plan at told changes → IsPlan next at told changes
-settled_otherwise {A} plan outcome next at told changes is planned =
-    let P : Plan A → Type 0 = λ p. IsPlan p at told changes in
-    subst P (sym is) (record { outputs = planned.planned.outputs; records = planned.planned.records; does = planned.planned.does })
+settled_otherwise {A} plan outcome next at told changes is planned = grind arith
 
 -- and it needs no relay
 pub quiet_otherwise : {A : Type 0} (plan : Plan A) (outcome : Outcome) (next : Plan A) (at : StepContext A) (told : EventOutputs A) (changes : List Change)
@@ -158,6 +140,4 @@ quiet_otherwise plan outcome next at told changes is planned = ap (λ p. p.relay
 -- with another relay too
 pub carried_otherwise : {A : Type 0} (plan : Plan A) (relay_update : Option (RelayUpdate A)) (next : Plan A) (at : StepContext A) (told : EventOutputs A) (changes : List Change)
     → next ≡ record plan { relay_update = relay_update } → IsPlan plan at told changes → IsPlan next at told changes
-carried_otherwise {A} plan relay_update next at told changes is planned =
-    let P : Plan A → Type 0 = λ p. IsPlan p at told changes in
-    subst P (sym is) (record { outputs = planned.outputs; records = planned.records; does = planned.does })
+carried_otherwise {A} plan relay_update next at told changes is planned = grind arith

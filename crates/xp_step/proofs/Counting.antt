@@ -1,13 +1,9 @@
 -- The segments of the calls, as a history grows.
-use Rattle.std.proofs.Common.{◌≡◌, ◌≢◌, ◌∙◌, ℕ, ◌+◌, ◌≤◌, leb, ltb, cond, false, min, Option, Some, None, option_to_list, List, [], ◌∷◌, ◌++◌, refl, ap, sym, arith, append_assoc, append-nil}
+use Rattle.std.proofs.Common.{◌≡◌, ◌≢◌, ◌∙◌, ℕ, ◌+◌, ◌≤◌, leb, ltb, cond, false, Option, Some, None, option_to_list, List, [], ◌∷◌, ◌++◌, refl, ap, sym, arith, append_assoc, append-nil}
 use Rattle.std.proofs.lemmas.Bool.{cond_both, cond-true, le-leb, leb-true, ltb-false}
 use Rattle.xp_answer.specs.ForwardedClear.{IsInRange}
 use Rattle.xp_charge.specs.Counted.{Counted}
-use Rattle.xp_charge.specs.Duration.{duration}
 use Rattle.xp_charge.specs.Meter.{counted_from, opening}
-use Rattle.xp_charge.specs.FarEnd.{far_end as other_end}
-use Rattle.xp_facilities.specs.Limits.{largest_duration}
-use Rattle.xp_facilities.specs.declared.charging_information.ChargingInformation.{ChargingInformation}
 use Rattle.xp_packets.specs.declared.end.End.{End}
 use Rattle.xp_packets.specs.declared.end.End.TheVariants.{Caller, Called}
 use Rattle.xp_relay.specs.Coupled.{Coupled, after, coupled}
@@ -53,39 +49,26 @@ grown : (counted : Counted) (here : End) (more : Option ℕ) → goes_past count
       from_caller = sum_within counted.limit counted.from_caller (mine Caller here more);
       from_called = sum_within counted.limit counted.from_called (mine Called here more);
     } ≡ counting here more counted
-grown counted Caller None past = refl
-grown counted Called None past = refl
-grown counted Caller (Some more) past = ap (λ n. record counted { from_caller = n }) (within counted.limit counted.from_caller more past)
-grown counted Called (Some more) past = ap (λ n. record counted { from_called = n }) (within counted.limit counted.from_called more past)
+grown counted here more past = grind (arith, within)
 
 -- ---- what is told
 
 told_counts : (call : Call) (counted : End → ℕ) (ended : ℕ) (end : End) (agreed : Option Agreement) → ((e : End) → counted e ≤ 99_999_999) → IsInRange (information_as call counted ended end agreed)
-told_counts call counted ended end None few = tt
-told_counts call counted ended end (Some agreement) few =
-    let seconds : ℕ = min largest_duration (duration (Some agreement.connected) ended) in
-    let told : Option ChargingInformation = Some (record { duration = seconds; segments = record { sent = counted (other_end end); received = counted end } }) in
-    cond_both _ told None IsInRange (λ pays. (omega arith, few (other_end end), few end)) (λ other. tt)
+told_counts call counted ended end agreed few = grind (arith, cond_both)
 
 module _ {A : Type 0} where
   segments_few : (tables : Tables) (history : List (Entry A)) (number : ℕ) (call : Call) (agreed : Option Agreement) (end : End) → segments_from tables history number call agreed end ≤ tables.segment_limit
-  segments_few tables history number call None end = omega arith
-  segments_few tables history number call (Some agreement) end =
-      sum_few tables.segment_limit 0 (all_judged_from end (coupled (relay_terms tables call agreement)) (arrivals tables history number)) (omega arith)
+  segments_few tables history number call agreed end = grind (arith, sum_few)
 
   information_counts : (tables : Tables) → IsSound tables → (history : List (Entry A)) (number : ℕ) (call : Call) (ended : ℕ) (end : End)
       → IsInRange (information_for call (segments_of tables history number call) ended end)
-  information_counts tables sound history number call ended end =
-      told_counts call (segments_of tables history number call) ended end call.agreed
-      (λ e. omega (arith, segments_few tables history number call call.agreed e, sound.limits.eight_digits))
+  information_counts tables sound history number call ended end = grind (arith, segments_few, told_counts)
 
   pub own_counts : (at : StepContext A) → IsSound at.tables → (found : Option (ℕ × Call)) → IsInRange (own_information at found)
-  own_counts at sound None = tt
-  own_counts at sound (Some found) = information_counts at.tables sound at.before found.0 found.1 at.moment _
+  own_counts at sound one = grind (arith, information_counts)
 
   pub far_counts : (at : StepContext A) → IsSound at.tables → (found : Option (ℕ × Call)) → IsInRange (far_information at found)
-  far_counts at sound None = tt
-  far_counts at sound (Some found) = information_counts at.tables sound at.before found.0 found.1 at.moment _
+  far_counts at sound one = grind (arith, information_counts)
 
   -- ---- one entry more
 
@@ -100,8 +83,7 @@ module _ {A : Type 0} where
   -- what a meter has for an end
   pub counted_here : (tables : Tables) (history : List (Entry A)) (number : ℕ) (call : Call) (agreed : Option Agreement) (end : End)
       → counted_from end (counted_by tables history number call agreed) ≡ segments_from tables history number call agreed end
-  counted_here tables history number call agreed Caller = refl
-  counted_here tables history number call agreed Called = refl
+  counted_here tables history number call agreed end = grind arith
 
   -- what is counted of packets
   abbrev count_of : Tables → Call → Agreement → List (Arrival A) → Counted
@@ -119,8 +101,7 @@ module _ {A : Type 0} where
     -- no packet for a call of this number
     pub counted_still : (number : ℕ) (call : Call) (agreement : Agreement) → ((carried : RelayedPacket A) → relayed_in world entry.event ≡ Some carried → number ≢ carried.number)
         → counted_by tables (before ++ entry ∷ []) number call (Some agreement) ≡ counted_by tables before number call (Some agreement)
-    counted_still number call agreement other =
-        ap (count_of tables call agreement) (arrivals_still tables before world entry number led other)
+    counted_still number call agreement other = grind (arith, arrivals_still)
 
     -- one for it that is within the limit
     module _ (c : RelayedPacket A) (by : relayed_in world entry.event ≡ Some c) where
@@ -130,10 +111,7 @@ module _ {A : Type 0} where
       segments_on : (end : End) → segments_from tables (before ++ entry ∷ []) c.number c.call (Some c.agreement) end
           ≡ sum_within tables.segment_limit (segments_from tables before c.number c.call (Some c.agreement) end)
           (option_to_list (judged_from end (directions tables before c.number c.call c.agreement) c.arrival))
-      segments_on end =
-          ap (λ came. sum_within tables.segment_limit 0 (all_judged_from end start came)) (arrivals_on tables before world entry c led by)
-          ∙ ap (sum_within tables.segment_limit 0) (judged_more end start (arrivals tables before c.number) c.arrival)
-          ∙ sum_more tables.segment_limit 0 (all_judged_from end start (arrivals tables before c.number)) _
+      segments_on end = grind (arith, arrivals_on, judged_more, sum_more)
 
       pub counted_on : is_past_limit tables before (Some c) ≡ false
           → counted_by tables (before ++ entry ∷ []) c.number c.call (Some c.agreement) ≡ counted_with tables before c

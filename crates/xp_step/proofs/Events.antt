@@ -1,5 +1,5 @@
 -- What is planned for an event, by what the table of actions has for it.
-use Rattle.std.proofs.Common.{◌≡◌, ℕ, IfOk, Result, Ok, Err, Option, None, Some, List, [], ◌∷◌, refl, subst, sym}
+use Rattle.std.proofs.Common.{arith, ◌≡◌, ℕ, IfOk, Result, Option, None, Some, List, [], ◌∷◌, refl, subst, sym}
 use Rattle.xp_causes.specs.declared.clearing_cause.TheConstants.{OUT_OF_ORDER, REMOTE_PROCEDURE_ERROR}
 use Rattle.xp_causes.specs.declared.diagnostic.TheConstants.{NO_ADDITIONAL_INFORMATION, TIMER_EXPIRED_FOR_INCOMING_CALL}
 use Rattle.xp_channel.specs.declared.action.Action.{Action}
@@ -20,12 +20,10 @@ use Rattle.xp_machine.specs.World.{Call, call_on}
 use Rattle.xp_step.proofs.Quiet.{collides_quiet, leaves_quiet, requests_quiet}
 
 if_ok : {X E : Type 0} (result : Result X E) (P Q : X → Type 0) → ((x : X) → P x → Q x) → IfOk result P → IfOk result Q
-if_ok (Ok x) P Q leads holds = leads x holds
-if_ok (Err fault) P Q leads holds = tt
+if_ok result P Q leads holds = grind arith
 
 unanswered : (line : ℕ) (found : Option (ℕ × Call)) → [] ≡ answers line found Plain
-unanswered line None = refl
-unanswered line (Some found) = refl
+unanswered line found = grind arith
 
 module _ {A E : Type 0} (at : StepContext A) (what : What A) (action : Action) (result : Result (Plan A) E) where
   abbrev pub ArePlanned : Action → Type 0
@@ -44,8 +42,7 @@ module _ {A E : Type 0} (at : StepContext A) (what : What A) (action : Action) (
   nothing_planned is planned = subst ArePlanned is (if_ok result _ _ (λ plan p. record { told = no_outputs; acts = plain no_outputs plan [] p; relays = p.quiet; planned = p.planned }) planned)
 
   pub relayed_planned : Relayed ≡ action → IfOk result (PlansRelayed at what) → ArePlanned action
-  relayed_planned is planned = subst ArePlanned is (if_ok result _ _ (λ plan p.
-      record { told = p.told; acts = p.acts; relays = p.relays; planned = p.planned }) planned)
+  relayed_planned is planned = grind (arith, if_ok)
 
   pub rise_planned : Rise ≡ action → PlainOf no_outputs (Rises at.line ∷ []) → ArePlanned action
   rise_planned is planned = subst ArePlanned is (if_ok result _ _ (λ plan p. record { told = no_outputs; acts = plain no_outputs plan _ p; relays = p.quiet; planned = p.planned }) planned)
@@ -70,30 +67,18 @@ module _ {A E : Type 0} (at : StepContext A) (what : What A) (action : Action) (
       (λ plan p. record { told = outputs_of_error at TIMER_EXPIRED_FOR_INCOMING_CALL; acts = plain (outputs_of_error at TIMER_EXPIRED_FOR_INCOMING_CALL) plan _ p; relays = leaves_quiet at.tables at.line _ _ _ (call_on at.world at.line) plan.relay_update p.quiet; planned = p.planned }) planned)
 
   pub answer_planned : (answer : CallAccepted A) → Accepting ≡ action → Some answer ≡ accepted_in what → IfOk result (PlansAnswer at answer) → ArePlanned action
-  answer_planned answer is asks planned = subst ArePlanned is (if_ok result _ _ (λ plan p.
-      let P : Option (CallAccepted A) → Type 0 = λ asked. Answers at asked (call_on at.world at.line) plan.outcome p.told in
-      record { told = p.told; acts = subst P asks p.acts; relays = p.relays; planned = p.planned }) planned)
+  answer_planned answer is asks planned = grind (arith, if_ok)
 
   pub confirm_planned : (clear : ClearRequest A) → Confirm ≡ action → Some clear ≡ clear_in what → IfOk result (PlansClear at clear) → ArePlanned action
-  confirm_planned clear is asks planned = subst ArePlanned is (if_ok result _ _ (λ plan p.
-      let P : Option (ClearRequest A) → Type 0 = λ asked. Confirms at asked (call_on at.world at.line) plan.outcome p.told in
-      let R : Option (ClearRequest A) → Type 0 = λ asked. RelaysFor at.tables (confirms at.line asked (call_on at.world at.line)) plan.relay_update in
-      let Q : Option (ClearRequest A) → Type 0 = λ asked. IsPlan plan at p.told (confirms at.line asked (call_on at.world at.line)) in
-      record { told = p.told; acts = subst P asks p.acts; relays = subst R asks p.relays; planned = subst Q asks p.planned }) planned)
+  confirm_planned clear is asks planned = grind (arith, if_ok)
 
   pub request_planned : (request : CallRequest A) → NewCall ≡ action → Some request ≡ request_in what
       → IfOk result (PlansRequest at request [] []) → ArePlanned action
-  request_planned request is asks planned = subst ArePlanned is (if_ok result _ _ (λ plan p.
-      let P : Option (CallRequest A) → Type 0 = λ asked. Requests at.force at.world at.line [] asked plan.outcome p.told in
-      let Q : Option (CallRequest A) → Type 0 = λ asked. IsPlan plan at p.told (requests at.line at.moment asked plan.outcome) in
-      record { told = p.told; acts = subst P asks p.acts; relays = requests_quiet at.tables at.line at.moment (request_in what) plan.outcome plan.relay_update p.quiet; planned = subst Q asks p.planned }) planned)
+  request_planned request is asks planned = grind (arith, if_ok, requests_quiet)
 
   pub collision_planned : (request : CallRequest A) → Collision ≡ action → Some request ≡ request_in what
       → IfOk result (PlansRequest at request (cancels at.line (call_on at.world at.line)) (outputs_of_cancel at.world at.line)) → ArePlanned action
-  collision_planned request is asks planned = subst ArePlanned is (if_ok result _ _ (λ plan p.
-      let P : Option (CallRequest A) → Type 0 = λ asked. Requests at.force at.world at.line (outputs_of_cancel at.world at.line) asked plan.outcome p.told in
-      let Q : Option (CallRequest A) → Type 0 = λ asked. IsPlan plan at p.told (collides at.line at.moment asked (call_on at.world at.line) plan.outcome) in
-      record { told = p.told; acts = subst P asks p.acts; relays = collides_quiet at.tables at.line at.moment (request_in what) (call_on at.world at.line) plan.outcome plan.relay_update p.quiet; planned = subst Q asks p.planned }) planned)
+  collision_planned request is asks planned = grind (arith, collides_quiet, if_ok)
 
   pub no_request_planned : None ≡ request_in what → PlainOf no_outputs [] → ArePlanned NewCall
   no_request_planned lacks planned = if_ok result _ _ (λ plan p.

@@ -1,5 +1,5 @@
 -- The tables in force along a run.
-use Rattle.std.proofs.Common.{◌≡◌, List, [], ◌∷◌, ◌++◌, refl, ap, sym, subst, ◌∙◌}
+use Rattle.std.proofs.Common.{arith, ◌≡◌, List, [], ◌∷◌, ◌++◌, refl, ap, sym, subst, ◌∙◌}
 use Rattle.xp_reload.proofs.Same.{frame_kept, frame_through}
 use Rattle.xp_reload.specs.Frame.{IsSameFrame}
 use Rattle.xp_subs.specs.Sound.{IsSound}
@@ -26,9 +26,7 @@ module _ {A : Type 0} where
   -- what an event brings keeps the frame, and is sound
   brought_frame : (tables force : Tables) (world : World) (what : What A) (brought : List Tables) → Brings force world what brought
       → IsSameFrame tables force → IsSameFrame tables (last_of force brought)
-  brought_frame tables force world events.Reload brought brings frame =
-      let P : List Tables → Type 0 = λ b. IsSameFrame tables (last_of force b) in
-      subst P (sym brings.1) (frame_through tables force brings.0 frame brings.2.frame)
+  brought_frame tables force world events.Reload brought brings frame = grind (arith, frame_through)
   brought_frame tables force world events.Up brought none frame = subst (λ b. IsSameFrame tables (last_of force b)) (sym none) frame
   brought_frame tables force world events.Down brought none frame = subst (λ b. IsSameFrame tables (last_of force b)) (sym none) frame
   brought_frame tables force world (events.Frame identifier packet) brought none frame = subst (λ b. IsSameFrame tables (last_of force b)) (sym none) frame
@@ -48,13 +46,11 @@ module _ {A : Type 0} where
   -- the same, along a run
   pub step_frame : (tables : Tables) (before : List (Entry A)) (world : World) (entry : Entry A) (next : World)
       → IsSameFrame tables (in_force tables before) → Step tables before world entry next → IsSameFrame tables (in_force tables (before ++ entry ∷ []))
-  step_frame tables before world entry next frame step =
-      subst (IsSameFrame tables) (sym (in_force_on tables before entry)) (brought_frame tables (in_force tables before) world entry.event.what entry.tables.items step.brought frame)
+  step_frame tables before world entry next frame step = grind (arith, brought_frame, in_force_on)
 
   pub step_sound : (tables : Tables) (before : List (Entry A)) (world : World) (entry : Entry A) (next : World)
       → IsSound (in_force tables before) → Step tables before world entry next → IsSound (in_force tables (before ++ entry ∷ []))
-  step_sound tables before world entry next sound step =
-      subst IsSound (sym (in_force_on tables before entry)) (brought_sound (in_force tables before) world entry.event.what entry.tables.items step.brought sound)
+  step_sound tables before world entry next sound step = grind (arith, brought_sound, in_force_on)
 
   pub run_frame : (tables : Tables) (history : List (Entry A)) (world : World) → Run tables history world → IsSameFrame tables (in_force tables history)
   run_frame tables history world run =

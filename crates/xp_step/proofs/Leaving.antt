@@ -1,10 +1,9 @@
 -- A line leaves the call that it is found in.
-use Rattle.std.proofs.Common.{◌≡◌, ◌∙◌, ℕ, is_none, false, option_to_list, Option, Some, None, List, [], ◌∷◌, ◌++◌, append-nil, refl, ap, sym, subst}
+use Rattle.std.proofs.Common.{arith, ◌≡◌, ℕ, is_none, false, option_to_list, Option, Some, None, List, [], ◌∷◌, ◌++◌, append-nil, ap, sym, subst}
 use Rattle.xp_charge.specs.Meter.{counted_from, opening}
 use Rattle.xp_charge.specs.FarEnd.{far_end as other_end}
 use Rattle.xp_charge.specs.declared.record.Record.{Record}
 use Rattle.xp_facilities.specs.declared.charging_information.ChargingInformation.{ChargingInformation}
-use Rattle.xp_packets.specs.declared.end.End.{End}
 use Rattle.xp_subs.specs.Tables.{Tables}
 use Rattle.xp_machine.specs.declared.call.LiveCall.{LiveCall}
 use Rattle.xp_machine.specs.declared.change.Change.TheVariants as kept
@@ -25,7 +24,6 @@ use Rattle.xp_step.specs.EventLine.{IsMeteredCall}
 use Rattle.xp_machine.specs.StoredState.{call_of_stored, entry_of, no_call_state_of}
 use Rattle.xp_step.specs.Plan.{IsWithdrawal}
 use Rattle.xp_step.specs.steps.Branches.{IsPlainPlan}
-use Rattle.xp_machine.specs.AppliedChange.{applied, applied_if_any, freed_if_any, left}
 use Rattle.xp_step.specs.Relays.{RelaysRepresentCalls, IsRepresentedBy, counted_by}
 use Rattle.xp_machine.specs.Relays.{relay_under}
 use Rattle.xp_machine.specs.Information.{information_for}
@@ -57,9 +55,7 @@ module _ {A : Type 0} where
       meter_not_lost none = subst Shows (sym none) shows
 
       pub meter_kept : (metered : MeteredRelay A) → Some metered ≡ relay_under relays call.caller → metered.meter ≡ counted_by tables before call.number (call_of_stored call) call.agreed
-      meter_kept metered under =
-          let it = some_of call.agreed some in
-          (subst Shows (sym under) shows).1 ∙ ap (counted_by tables before call.number (call_of_stored call)) (sym it.1)
+      meter_kept metered under = grind (arith, shows, some_of)
 
   -- ---- what is told and recorded of it
 
@@ -78,29 +74,19 @@ module _ {A : Type 0} where
       call = call_of_stored it.call.now
 
       counts_are : (λ end. counted_from end it.meter) ≡ segments_of at.tables at.before it.call.now.number call
-      counts_are =
-          ap (λ m. λ (end : End). counted_from end m) in_it.1
-          ∙ (λ i end. counted_here at.tables at.before it.call.now.number call it.call.now.agreed end i)
+      counts_are = grind (arith, counted_here, in_it)
 
       pub told_own : (told : Option ChargingInformation) → told ≡ information_for call (λ end. counted_from end it.meter) at.moment (end_of call at.line)
           → told ≡ own_information at (call_on at.world at.line)
-      told_own told is_told =
-          is_told ∙ ap (λ counted. information_for call counted at.moment (end_of call at.line)) counts_are ∙ ap (own_information at) (sym in_call)
+      told_own told is_told = grind (arith, counts_are, in_call)
 
       pub told_far : (told : Option ChargingInformation) → told ≡ information_for call (λ end. counted_from end it.meter) at.moment (other_end (end_of call at.line))
           → told ≡ far_information at (call_on at.world at.line)
-      told_far told is_told =
-          is_told ∙ ap (λ counted. information_for call counted at.moment (other_end (end_of call at.line))) counts_are ∙ ap (far_information at) (sym in_call)
+      told_far told is_told = grind (arith, counts_are, in_call)
 
       pub withdrawn : (way : NoCallState) (cause diagnostic : ℕ) (charge : Record) → charge ≡ record_of it.call.now.number call (λ end. counted_from end it.meter) at.moment cause diagnostic
           → IsWithdrawal (record { change = kept.Leave at.line way; charged = Some charge }) at (leaves at.line (no_call_state_of way) cause diagnostic (call_on at.world at.line))
-      withdrawn way cause diagnostic charge is_charge =
-          let W : Option (ℕ × Call) → Type 0 =
-          λ found. IsWithdrawal (record { change = kept.Leave at.line way; charged = Some charge }) at (leaves at.line (no_call_state_of way) cause diagnostic found) in
-          subst W (sym in_call) (record {
-            does = ap (λ found. left at.line (no_call_state_of way) found at.world) in_call;
-            records = ap (λ r. r ∷ []) (is_charge ∙ ap (λ counted. record_of it.call.now.number call counted at.moment cause diagnostic) counts_are);
-          })
+      withdrawn way cause diagnostic charge is_charge = grind (arith, counts_are, in_call)
 
     pub told_none : charged ≡ None → None ≡ own_information at (call_on at.world at.line)
     told_none none = ap (own_information at) (sym (not_in_call none))
@@ -110,13 +96,7 @@ module _ {A : Type 0} where
 
     pub withdrawn_alone : charged ≡ None → (way : NoCallState) (cause diagnostic : ℕ)
         → IsWithdrawal (record { change = kept.Leave at.line way; charged = None }) at (leaves at.line (no_call_state_of way) cause diagnostic (call_on at.world at.line))
-    withdrawn_alone none way cause diagnostic =
-        let W : Option (ℕ × Call) → Type 0 =
-        λ found. IsWithdrawal (record { change = kept.Leave at.line way; charged = None }) at (leaves at.line (no_call_state_of way) cause diagnostic found) in
-        subst W (sym (not_in_call none)) (record {
-          does = ap (λ found. left at.line (no_call_state_of way) found at.world) (not_in_call none);
-          records = refl;
-        })
+    withdrawn_alone none way cause diagnostic = grind (arith, not_in_call)
 
   -- ---- a plan by which a line leaves its call
 
@@ -127,14 +107,4 @@ module _ {A : Type 0} where
     told = record { carried = []; own = own; far = far; taken = [] }
 
     pub leaving : plan.outcome ≡ Plain → plan.relay_update ≡ None → IsPlainPlan plan at told (change ∷ [])
-    leaving plain quiet = record {
-      plain = plain;
-      quiet = quiet;
-      planned = record {
-        outputs = outputs ∙ sym (append-nil (own ++ far));
-        records = records ∙ is.records ∙ sym (append-nil _);
-        does = ap (λ c. applied_if_any c (freed_if_any plan.cancelled at.world)) changes
-            ∙ ap (λ l. applied withdrawal.change (freed_if_any l at.world)) uncancelled
-            ∙ is.does;
-      };
-    }
+    leaving plain quiet = grind (arith, append-nil)

@@ -1,5 +1,5 @@
 -- What each change of a step, and each thing that it puts out, comes of.
-use Rattle.std.proofs.Common.{◌≡◌, ℕ, Bool, true, false, Option, Some, None, List, [], ◌∷◌, ◌++◌, All, map, refl, sym, subst}
+use Rattle.std.proofs.Common.{arith, ◌≡◌, ℕ, Bool, true, false, Option, Some, None, List, [], ◌∷◌, ◌++◌, All, map, refl, sym, subst}
 use Rattle.std.proofs.lemmas.List.Elements.{All-append, All-contains_itself, All-from_recursion, All-map, All-same, All-weaker}
 use Rattle.std.specs.List.{AllByRecursion, Contains}
 use Rattle.xp_answer.specs.Answered.{Answered}
@@ -13,7 +13,6 @@ use Rattle.xp_answer.specs.declared.setup.Setup.{Setup}
 use Rattle.xp_causes.specs.declared.clearing_cause.TheConstants.{LOCAL_PROCEDURE_ERROR, NETWORK_CONGESTION, NUMBER_BUSY, OUT_OF_ORDER, REMOTE_PROCEDURE_ERROR}
 use Rattle.xp_causes.specs.declared.diagnostic.TheConstants.{CALL_COLLISION, NO_ADDITIONAL_INFORMATION, TIMER_EXPIRED_FOR_INCOMING_CALL}
 use Rattle.xp_causes.specs.declared.refusal.Refusal.{Refusal}
-use Rattle.xp_causes.specs.Indicated.{indicated_cause, indicated_diagnostic}
 use Rattle.xp_channel.specs.declared.action.Action.{Action}
 use Rattle.xp_channel.specs.declared.action.Action.TheVariants.{Nothing, Rise, Fall, NewCall, Collision, Answer as Accepting, Confirm, Free, Error, Relayed, Expired}
 use Rattle.xp_decide.specs.Decided.{Decided}
@@ -32,7 +31,7 @@ use Rattle.xp_step.specs.declared.output.Output.{Output}
 use Rattle.xp_step.specs.Acts.{Acts, Answers, CarriesAs, Confirms, IsAnswered, IsPlain, IsRequested, Requests, agreement_of, outputs_of_cancel, closed, outputs_to_both, outputs_of_error, outputs_of_fall}
 use Rattle.xp_machine.specs.World.{line_states, Call, call_numbered, call_on, far_end}
 use Rattle.xp_step.specs.RelayedPackets.{RelayedPacket, relayed_by, turn_of_relayed}
-use Rattle.xp_machine.specs.Changes.{Change, Rises, Leaves, Begins, IsRefused, Connects, Ends, NoCallState, GoesOut, IsFree, IsCleared}
+use Rattle.xp_machine.specs.Changes.{Change, Rises, Leaves, Begins, IsRefused, Connects, Ends, NoCallState}
 use Rattle.xp_machine.specs.Channel.{INITIAL_IDENTIFIER}
 use Rattle.xp_step.specs.StepContext.{StepContext}
 use Rattle.xp_step.specs.Effects.{answers, carries, collides, confirms, effects_of, leaves, requests}
@@ -108,8 +107,7 @@ module _ {A : Type 0} where
     -- ---- changes
 
     leaving : (way : NoCallState) (cause diagnostic : ℕ) (found : Option (ℕ × Call)) → call_on at.world at.line ≡ found → AllCome (leaves at.line way cause diagnostic found ∷ [])
-    leaving way cause diagnostic None is = (refl, tt)
-    leaving way cause diagnostic (Some found) is = (((shown_on at.world at.line found is).1, refl), tt)
+    leaving way cause diagnostic found is = grind (arith, shown_on)
 
     requested : (request : CallRequest A) (far : List (Output A)) (outcome : Outcome) (told : EventOutputs A) → request_in what ≡ Some request
         → IsRequested at.force at.world at.line far request outcome told → AllCome (requests at.line at.moment (Some request) outcome)
@@ -131,63 +129,25 @@ module _ {A : Type 0} where
 
     requesting : (far : List (Output A)) (asked : Option (CallRequest A)) (outcome : Outcome) (told : EventOutputs A) → request_in what ≡ asked
         → Requests at.force at.world at.line far asked outcome told → AllCome (requests at.line at.moment asked outcome)
-    requesting far None outcome told asks is = tt
-    requesting far (Some request) outcome told asks is = requested request far outcome told asks is
+    requesting far asked outcome told asks is = grind (arith, requested)
 
     colliding : (far : List (Output A)) (asked : Option (CallRequest A)) (found : Option (ℕ × Call)) (outcome : Outcome) (told : EventOutputs A) → request_in what ≡ asked
         → call_on at.world at.line ≡ found → Requests at.force at.world at.line far asked outcome told → AllCome (collides at.line at.moment asked found outcome)
-    colliding far None found outcome told asks on is = tt
-    colliding far (Some request) None outcome told asks on is = requested request far outcome told asks is
-    colliding far (Some request) (Some found) outcome told asks on is =
-        (((shown_on at.world at.line found on).1, refl), requested request far outcome told asks is)
+    colliding far asked found outcome told asks one is = grind (arith, requested, shown_on)
 
     accepting : (accepted : Option (CallAccepted A)) (found : Option (ℕ × Call)) (outcome : Outcome) (told : EventOutputs A) → call_on at.world at.line ≡ found
         → Answers at accepted found outcome told → AllCome (answers at.line found outcome)
-    accepting accepted None outcome told on is = tt
-    accepting None (Some found) outcome told on is =
-        let P : Outcome → Type 0 = λ o. AllCome (answers at.line (Some found) o) in subst P (sym is.0) tt
-    accepting (Some answer) (Some found) (Connected agreement) told on is = (
-      record {
-        live = (shown_on at.world at.line found on).1;
-        answer = answer;
-        connection = is.connection;
-        answered = is.answered;
-        agreement_is = is.agreement_is;
-      },
-      tt,
-    )
-    accepting (Some answer) (Some found) (Declined diagnostic) told on is = (((shown_on at.world at.line found on).1, refl), tt)
-    accepting (Some answer) (Some found) Plain told on is = tt
-    accepting (Some answer) (Some found) (Put called setup) told on is = tt
-    accepting (Some answer) (Some found) (Refused why) told on is = tt
-    accepting (Some answer) (Some found) Exceeded told on is = tt
+    accepting accepted found outcome told one is = grind (arith, shown_on)
 
     confirmed : (clear : Option (ClearRequest A)) → AllCome (confirms at.line clear (call_on at.world at.line))
-    confirmed None = tt
-    confirmed (Some clear) = leaving IsFree (indicated_cause clear.cause) (indicated_diagnostic clear.diagnostic) (call_on at.world at.line) refl
+    confirmed clear = grind (arith, leaving)
 
     carried_on : (found : Option (ℕ × Call)) (outcome : Outcome) → call_on at.world at.line ≡ found → AllCome (carries at.line found outcome)
-    carried_on found Exceeded on = leaving IsCleared NETWORK_CONGESTION NO_ADDITIONAL_INFORMATION found on
-    carried_on found Plain on = tt
-    carried_on found (Put called setup) on = tt
-    carried_on found (Refused why) on = tt
-    carried_on found (Connected agreement) on = tt
-    carried_on found (Declined diagnostic) on = tt
+    carried_on found outcome one = grind (arith, leaving)
 
     -- each change that an action is
     pub all_come : (action : Action) (outcome : Outcome) (told : EventOutputs A) → Acts at what action outcome told → AllCome (effects_of at what action outcome)
-    all_come Nothing outcome told acts = tt
-    all_come Rise outcome told acts = (refl, tt)
-    all_come Fall outcome told acts = leaving GoesOut OUT_OF_ORDER NO_ADDITIONAL_INFORMATION (call_on at.world at.line) refl
-    all_come NewCall outcome told acts = requesting [] (request_in what) outcome told refl acts
-    all_come Collision outcome told acts =
-        colliding (outputs_of_cancel at.world at.line) (request_in what) (call_on at.world at.line) outcome told refl refl acts
-    all_come Accepting outcome told acts = accepting (accepted_in what) (call_on at.world at.line) outcome told refl acts
-    all_come Confirm outcome told acts = confirmed (clear_in what)
-    all_come Free outcome told acts = (refl, tt)
-    all_come (Error diagnostic) outcome told acts = leaving IsCleared REMOTE_PROCEDURE_ERROR diagnostic (call_on at.world at.line) refl
-    all_come Relayed outcome told acts = carried_on (call_on at.world at.line) outcome refl
-    all_come Expired outcome told acts = leaving IsCleared REMOTE_PROCEDURE_ERROR TIMER_EXPIRED_FOR_INCOMING_CALL (call_on at.world at.line) refl
+    all_come action outcome told acts = grind (arith, accepting, carried_on, colliding, confirmed, leaving, requesting)
 
     -- ---- what is put out
 

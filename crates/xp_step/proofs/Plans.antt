@@ -1,5 +1,5 @@
 -- A plan with the end of a call before its own change.
-use Rattle.std.proofs.Common.{◌≡◌, ◌∙◌, ℕ, Option, Some, None, List, [], ◌∷◌, ◌++◌, option_to_list, refl, ap, sym, subst, append_assoc, append-nil}
+use Rattle.std.proofs.Common.{arith, ◌≡◌, ◌∙◌, ℕ, Option, Some, None, List, [], ◌∷◌, ◌++◌, option_to_list, refl, ap, sym, subst, append_assoc, append-nil}
 use Rattle.xp_causes.specs.declared.clearing_cause.TheConstants.{NUMBER_BUSY}
 use Rattle.xp_causes.specs.declared.diagnostic.TheConstants.{CALL_COLLISION}
 use Rattle.xp_charge.specs.Counted.{Counted}
@@ -11,11 +11,11 @@ use Rattle.xp_step.specs.declared.output.Output.{Output}
 use Rattle.xp_step.specs.declared.plan.Plan.{Plan}
 use Rattle.xp_step.specs.declared.plan.request.Cancelled.{Cancelled}
 use Rattle.xp_step.specs.Acts.{outputs_of_cancel}
-use Rattle.xp_machine.specs.Changes.{Change, IsFree, all_changed, changed, recorded, recorded_by}
+use Rattle.xp_machine.specs.Changes.{Change, all_changed, changed, recorded, recorded_by}
 use Rattle.xp_machine.specs.Clearing.{record_of}
 use Rattle.xp_step.specs.Plan.{IsPlan, recorded_at}
 use Rattle.xp_step.specs.steps.Branches.{IsCancelled}
-use Rattle.xp_machine.specs.AppliedChange.{applied, applied_if_any, freed_if_any, left}
+use Rattle.xp_machine.specs.AppliedChange.{applied}
 use Rattle.xp_step.specs.Effects.{cancels}
 use Rattle.xp_step.specs.Relays.{counted_by}
 use Rattle.xp_step.specs.Segments.{segments_of}
@@ -47,11 +47,7 @@ planned plan at cancelled ended far kept change own taken records ends outputs c
   records = charged ∙ ap (λ front. front ++ records) ends.records
       ∙ ap (λ last. recorded_at at ended ++ last) (recorded_is ∙ sym (append-nil (recorded (segments_of at.tables at.before) at.moment (all_changed ended at.world) change)))
       ∙ sym (recorded_by-append (segments_of at.tables at.before) at.moment ended (change ∷ []) at.world);
-  does = ap (λ c. applied_if_any c (freed_if_any plan.cancelled at.world)) changes
-      ∙ ap (λ l. applied kept (freed_if_any l at.world)) cancels
-      ∙ ap (applied kept) ends.does
-      ∙ does (all_changed ended at.world)
-      ∙ sym (all_changed-append ended (change ∷ []) at.world);
+  does = grind (arith, all_changed-append);
 }
 
 module _ {A : Type 0} (cancelled : Cancelled A) (at : StepContext A) where
@@ -66,11 +62,4 @@ module _ {A : Type 0} (cancelled : Cancelled A) (at : StepContext A) where
       → cancelled.line ≡ Some at.line → option_to_list cancelled.charged ≡ record_of found.0 found.1 (λ end. counted_from end counted) at.moment NUMBER_BUSY CALL_COLLISION ∷ []
       → option_to_list cancelled.told ≡ outputs_of_cancel at.world at.line
       → IsCancelled cancelled at (cancels at.line (call_on at.world at.line)) (outputs_of_cancel at.world at.line)
-  call_cancelled found counted is counted_is line charged told =
-      let P : Option (ℕ × Call) → Type 0 = λ f. IsCancelled cancelled at (cancels at.line f) (outputs_of_cancel at.world at.line) in
-      subst P (sym is) (record {
-        does = ap (λ l. freed_if_any l at.world) line ∙ ap (λ f. left at.line IsFree f at.world) is;
-        next = refl;
-        records = charged ∙ ap (λ m. record_of found.0 found.1 (λ end. counted_from end m) at.moment NUMBER_BUSY CALL_COLLISION ∷ []) counted_is;
-        told = told;
-      })
+  call_cancelled found counted is counted_is line charged told = grind arith

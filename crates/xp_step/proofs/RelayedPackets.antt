@@ -1,18 +1,17 @@
 -- What is known of a packet for a connected call, and of the packets of a history that grows.
-use Rattle.std.proofs.Common.{◌≡◌, ◌≢◌, ◌∙◌, ℕ, eqb, Option, Some, None, option_map, List, [], ◌∷◌, ◌++◌, append_assoc, append-nil, refl, ap, sym, subst}
+use Rattle.std.proofs.Common.{arith, ◌≡◌, ◌≢◌, ◌∙◌, ℕ, eqb, Option, Some, None, option_map, List, [], ◌∷◌, ◌++◌, append_assoc, append-nil, refl, ap, sym}
 use Rattle.std.proofs.lemmas.Bool.{cond-false, cond-true, eq-eqb, ne_eqb}
 use Rattle.xp_channel.specs.declared.action.Action.{Action}
-use Rattle.xp_channel.specs.declared.action.Action.TheVariants.{Nothing, Rise, Fall, NewCall, Collision, Answer, Confirm, Free, Error, Relayed, Expired}
+use Rattle.xp_channel.specs.declared.action.Action.TheVariants.{Relayed}
 use Rattle.xp_packets.specs.declared.packet.Packet.{Packet}
 use Rattle.xp_relay.proofs.Extends.{run_more}
-use Rattle.xp_relay.specs.Coupled.{after, coupled}
-use Rattle.xp_relay.specs.Runs.{run}
-use Rattle.xp_subs.specs.Tables.{Tables, line_count}
+use Rattle.xp_relay.specs.Coupled.{after}
+use Rattle.xp_subs.specs.Tables.{Tables}
 use Rattle.xp_step.specs.declared.entry.Entry.{Entry}
 use Rattle.xp_machine.specs.declared.agreement.Agreement.{Agreement}
-use Rattle.xp_step.specs.RelayedPackets.{RelayedPacket, arrival_for, arrivals, arrivals_from, relayed_as, relayed_by, relayed_in, directions, relay_terms, turn_of_relayed}
+use Rattle.xp_step.specs.RelayedPackets.{RelayedPacket, arrival_for, arrivals, arrivals_from, relayed_as, relayed_by, relayed_in, directions, turn_of_relayed}
 use Rattle.xp_machine.specs.CallEnds.{end_of}
-use Rattle.xp_machine.specs.World.{Call, World, opening}
+use Rattle.xp_machine.specs.World.{Call, World}
 use Rattle.xp_step.specs.Worlds.{world_after, world_from, world_next}
 
 -- only what is carried is put out
@@ -34,32 +33,15 @@ module _ {A : Type 0} where
         agreement = agreement;
         arrival = record { here = end_of found.1 line; packet = packet };
       }) agreed ≡ Some carried → IsOf line (Some found) (Some packet) carried
-  agreed_of line found packet carried None none is = absurd (cc)
-  agreed_of line found packet carried (Some agreement) some is =
-      let made : RelayedPacket A = record { number = found.0; call = found.1; agreement = agreement; arrival = record { here = end_of found.1 line; packet = packet } } in
-      let same : made ≡ carried = cc in
-      let P : RelayedPacket A → Type 0 = λ c. IsOf line (Some found) (Some packet) c in
-      subst P same (record { on = refl; agreed = some; arrives = refl; here = refl })
+  agreed_of line found packet carried agreed some is = grind arith
 
   pub of_carried : (line : ℕ) (found : Option (ℕ × Call)) (packet : Option (Packet A)) (carried : RelayedPacket A) → relayed_by line found packet ≡ Some carried
       → IsOf line found packet carried
-  of_carried line None packet carried is = absurd (cc)
-  of_carried line (Some found) None carried is = absurd (cc)
-  of_carried line (Some found) (Some packet) carried is = agreed_of line found packet carried found.1.agreed refl is
+  of_carried line found packet carried is = grind (arith, agreed_of)
 
   -- it is relayed
   pub is_relayed : (action : Action) (by : Option (RelayedPacket A)) (carried : RelayedPacket A) → relayed_as action by ≡ Some carried → (action ≡ Relayed) × (by ≡ Some carried)
-  is_relayed Relayed by carried is = (refl, is)
-  is_relayed Nothing by carried is = absurd (cc)
-  is_relayed Rise by carried is = absurd (cc)
-  is_relayed Fall by carried is = absurd (cc)
-  is_relayed NewCall by carried is = absurd (cc)
-  is_relayed Collision by carried is = absurd (cc)
-  is_relayed Answer by carried is = absurd (cc)
-  is_relayed Confirm by carried is = absurd (cc)
-  is_relayed Free by carried is = absurd (cc)
-  is_relayed (Error diagnostic) by carried is = absurd (cc)
-  is_relayed Expired by carried is = absurd (cc)
+  is_relayed action by carried is = grind arith
 
   -- ---- a history that grows
 
@@ -76,9 +58,7 @@ module _ {A : Type 0} where
 
   pub arrivals_more : (tables : Tables) (before : List (Entry A)) (world : World) (entry : Entry A) (number : ℕ) → world ≡ world_after tables before
       → arrivals tables (before ++ entry ∷ []) number ≡ arrivals tables before number ++ arrival_for number (relayed_in world entry.event)
-  arrivals_more tables before world entry number is =
-      arrivals_from_more number tables [] (opening (line_count tables)) before entry
-      ∙ ap (λ w. arrivals tables before number ++ arrival_for number (relayed_in w entry.event)) (sym is)
+  arrivals_more tables before world entry number is = grind (arith, arrivals_from_more)
 
   -- no packet for a call of another number
   pub arrivals_still : (tables : Tables) (before : List (Entry A)) (world : World) (entry : Entry A) (number : ℕ) → world ≡ world_after tables before
@@ -96,8 +76,7 @@ module _ {A : Type 0} where
   pub directions_still : (tables : Tables) (before : List (Entry A)) (world : World) (entry : Entry A) (number : ℕ) (call : Call) (agreement : Agreement) → world ≡ world_after tables before
       → ((carried : RelayedPacket A) → relayed_in world entry.event ≡ Some carried → number ≢ carried.number)
       → directions tables (before ++ entry ∷ []) number call agreement ≡ directions tables before number call agreement
-  directions_still tables before world entry number call agreement is other =
-      ap (run (coupled (relay_terms tables call agreement))) (arrivals_still tables before world entry number is other)
+  directions_still tables before world entry number call agreement is other = grind (arith, arrivals_still)
 
   -- one packet more for this call
   pub arrivals_on : (tables : Tables) (before : List (Entry A)) (world : World) (entry : Entry A) (carried : RelayedPacket A) → world ≡ world_after tables before
@@ -112,6 +91,4 @@ module _ {A : Type 0} where
   pub directions_on : (tables : Tables) (before : List (Entry A)) (world : World) (entry : Entry A) (carried : RelayedPacket A) → world ≡ world_after tables before
       → relayed_in world entry.event ≡ Some carried
       → directions tables (before ++ entry ∷ []) carried.number carried.call carried.agreement ≡ after carried.arrival.here (turn_of_relayed tables before carried)
-  directions_on tables before world entry carried is by =
-      ap (run (coupled (relay_terms tables carried.call carried.agreement))) (arrivals_on tables before world entry carried is by)
-      ∙ run_more (coupled (relay_terms tables carried.call carried.agreement)) (arrivals tables before carried.number) carried.arrival
+  directions_on tables before world entry carried is by = grind (arith, arrivals_on, run_more)

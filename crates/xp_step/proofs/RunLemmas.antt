@@ -1,5 +1,5 @@
 -- Runs grow by one entry, and keep what each step keeps.
-use Rattle.std.proofs.Common.{List, [], ◌∷◌, ◌++◌, refl, sym, subst, append_assoc, append-nil}
+use Rattle.std.proofs.Common.{arith, List, [], ◌∷◌, ◌++◌, refl, sym, subst, append_assoc, append-nil}
 use Rattle.xp_subs.specs.Tables.{Tables}
 use Rattle.xp_step.specs.declared.entry.Entry.{Entry}
 use Rattle.xp_step.specs.Run.{RunFrom}
@@ -27,9 +27,7 @@ module _ {A : Type 0} where
       → ((before : List (Entry A)) (world : World) (entry : Entry A) (next : World) → P before world → Step tables before world entry next → P (before ++ entry ∷ []) next)
       → (before : List (Entry A)) (world : World) (entries : List (Entry A)) (last : World)
       → P before world → RunFrom tables before world entries last → P (before ++ entries) last
-  run_keeps P tables keeps before world [] last holds same =
-      let Q : List (Entry A) → Type 0 = λ front. P front last in
-      subst Q (sym (append-nil before)) (subst (P before) (sym same) holds)
+  run_keeps P tables keeps before world [] last holds same = grind (arith, append-nil)
   run_keeps P tables keeps before world (first ∷ entries) last holds run =
       let Q : List (Entry A) → Type 0 = λ front. P front last in
       subst Q (append_assoc before (first ∷ []) entries)

@@ -19,3 +19,4 @@ pub mod FillLemmas
 pub mod LaidLemmas
 pub mod ReadLemmas
 pub mod LawLemmas
+pub mod StepLemmas

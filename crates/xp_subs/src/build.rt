@@ -7,13 +7,13 @@ ghost use Rattle.xp_subs.specs.steps.WithinLimits.{AreWithinLimits, IsStationWit
 ghost use Rattle.xp_subs.specs.Tables.{spare_place};
 
 use crate::limits::{MOST_GROUPS_OF_STATION, MOST_LINES_OF_STATION};
-use crate::line::Line;
+use crate::line::{Line, copy_of};
 use crate::station::{Membership, Station};
 use crate::{GroupNo, LineNo, StationNo};
 use arrayvec::ArrayVec;
 use indexmap::IndexSet;
 use std::alloc::{AllocError, Global};
-use xp_file::{GroupEntry, LineEntry, Name, StationEntry, SubscriptionFile};
+use xp_file::{GroupEntry, LineEntry, Name, Redirection, StationEntry, SubscriptionFile};
 use xp_packets::Modulus;
 
 /// The names of the groups, in the order in which the file first mentions them.
@@ -84,7 +84,16 @@ fn station(entry: &StationEntry, first: LineNo, known: &IndexSet<Name>) -> Stati
         preferential: entry.preferential,
         default_caller: entry.default_caller,
         memberships: memberships(&entry.groups, known),
-        redirect: entry.redirect.as_ref().map(|redirect| redirect.copy()),
+        redirect: copied(&entry.redirect),
+    }
+}
+
+fn copied(redirect: &Option<Redirection>) -> Option<Redirection>
+    ensures { result ≡ redirect.now }
+{
+    match redirect {
+        Some(redirect) => Some(redirect.copy()),
+        None => None,
     }
 }
 
@@ -190,7 +199,7 @@ fn line(station: StationNo, entry: &LineEntry) -> Line
     Line {
         name: entry.name.copy(),
         access: entry.access.copy(),
-        address: entry.address.as_ref().map(|address| address.copy()),
+        address: copy_of(&entry.address),
         modulus: entry.modulus,
         station,
         from: entry.from.copy(),

@@ -50,7 +50,7 @@ impl Line {
         Line {
             name: self.name.copy(),
             access: self.access.copy(),
-            address: self.address.as_ref().map(|address| address.copy()),
+            address: copy_of(&self.address),
             modulus: self.modulus,
             station: self.station,
             from: self.from.copy(),
@@ -62,5 +62,15 @@ impl Line {
         ensures { result ≡ has_router self.now }
     {
         matches!(self.access, Access::Router(_))
+    }
+}
+
+/// An equal copy of a line's own address, if it has one.
+pub(crate) fn copy_of(address: &Option<Digits>) -> Option<Digits>
+    ensures { result ≡ address.now }
+{
+    match address {
+        Some(address) => Some(address.copy()),
+        None => None,
     }
 }

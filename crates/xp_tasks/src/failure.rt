@@ -11,7 +11,7 @@ use xp_exchange::ReplayFault;
 use xp_subs::SubscriptionFault;
 
 /// Why a task failed.
-#[derive(Clone, Copy, Debug, PartialEq, Eq, Error)]
+#[derive(Clone, Copy, Debug, Error)]
 pub enum TaskFailure {
     /// The subscription file cannot be read, or is not UTF-8.
     #[error("xp: file")]

@@ -3,7 +3,7 @@
 use std::net::SocketAddr;
 
 /// Where the connections of a line come from.
-#[derive(Clone, Copy, PartialEq)]
+#[derive(Clone, Copy)]
 pub enum Access {
     /// They come to a TCP port of the line's own.
     Port(u16),

@@ -14,7 +14,7 @@ use thiserror::Error;
 pub const MOST_SOURCES: usize = 8;
 
 /// Why a source is not added.
-#[derive(Clone, Copy, Debug, Drop, PartialEq, Error)]
+#[derive(Clone, Copy, Debug, Error)]
 pub enum AdmissionFault {
     /// The text is that of no IPv4 or IPv6 address, and of no network.
     #[error("neither an address nor a network")]

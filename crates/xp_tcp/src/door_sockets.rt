@@ -2,21 +2,21 @@
 
 use crate::line_sockets::listen_at;
 use crate::sockets::ListenFault;
-use crate::tokens::{WAKER, listener_of};
+use crate::thread_waits::ThreadWaits;
+use crate::tokens::listener_of;
 use mio::net::TcpListener;
-use mio::{Events, Poll, Registry, Waker};
+use mio::{Events, Poll, Registry};
 use std::alloc::Global;
 use std::io;
 use std::net::{Net, SocketAddr};
 use std::sync::Arc;
-use xp_door::{DoorBell, Marks};
+use xp_door::{DoorBell, DoorWaits, Doorway, Marks, Routes};
 use xp_subs::MOST_LINES;
 
 /// How many events a wait of the door takes.
 const MOST_EVENTS: usize = 3;
 
 /// What the door's thread waits on.
-#[derive(Drop)]
 pub(crate) struct DoorSockets {
     pub(crate) poll: Poll,
     /// The same once more, for others.
@@ -27,28 +27,49 @@ pub(crate) struct DoorSockets {
     pub(crate) listener: Option<TcpListener>,
 }
 
+impl Drop for DoorSockets {
+    fn drop(self) {
+        let DoorSockets {
+            poll: _,
+            waits: _,
+            events: _,
+            bell: _,
+            listener: _,
+        } = self;
+    }
+}
+
 impl DoorSockets {
     /// A door that does not listen.
     pub(crate) fn new<R: Net>(rt: &R, alloc: Global) -> Result<DoorSockets, ListenFault> {
         let events = Events::with_capacity(alloc, MOST_EVENTS)?;
         let wanted = Marks::new(alloc, MOST_LINES)?;
-        let poll = Poll::new(rt)?;
-        let waits = poll.registry().try_clone()?;
-        let waker = Waker::new(poll.registry(), WAKER)?;
-        let bell = Arc::new(alloc, DoorBell::new(waker, wanted)).map_err(|_| ListenFault::Memory)?;
+        let ThreadWaits {
+            poll,
+            registry,
+            waker,
+        } = ThreadWaits::open(rt)?;
+        let bell = Arc::new(alloc, DoorBell::new(waker, wanted))?;
         Ok(DoorSockets {
             poll,
-            waits,
+            waits: registry,
             events,
             bell,
             listener: None,
         })
     }
 
-    /// Listens at this address for all routers.
-    pub(crate) fn listen<R: Net>(&mut self, rt: &R, at: SocketAddr) -> io::Result<()> {
-        self.listener = Some(listen_for_routers(rt, &self.waits, at)?);
-        Ok(())
+    /// What the door's thread waits on, and the doorway to these lines.
+    pub(crate) fn into_doorway(self, routes: Routes) -> (DoorWaits, Doorway) {
+        let DoorSockets {
+            poll,
+            waits,
+            events,
+            bell,
+            listener,
+        } = self;
+        let doorway = Doorway::new(bell, waits, listener, routes);
+        (DoorWaits { poll, events }, doorway)
     }
 }
 

@@ -5,7 +5,7 @@ ghost use Rattle.std.specs.Prelude.{◌≡◌, ◌↔◌, ◌⊎◌};
 ghost use Rattle.xp_tcp.specs.declared.line_listener.NoConnection.TheVariants as reasons;
 
 use crate::admission::Admission;
-use crate::own_port::{NotTaken, OwnArrival, OwnPort};
+use crate::own_port::{Met, NotTaken, OwnArrival, OwnPort};
 use crate::refusals::Refusals;
 use mio::net::TcpListener;
 use mio::{Registry, Token};
@@ -20,7 +20,7 @@ use xp_door::{LineShare, Notice, hold, is_in_want};
 pub(crate) const MOST_TAKEN: usize = 16;
 
 /// Why no connection was taken.
-#[derive(Clone, Copy, PartialEq)]
+#[derive(Clone, Copy)]
 pub(crate) enum NoConnection {
     /// One connection alone has failed, or may not come from where it does. There may be another behind it.
     Passed,
@@ -28,17 +28,6 @@ pub(crate) enum NoConnection {
     Nothing,
     /// The socket is none that listens.
     Fault,
-}
-
-/// What becomes of a connection that comes while the line has one.
-#[derive(Clone, Copy, PartialEq)]
-enum Met {
-    /// It takes the place of the line's.
-    Next,
-    /// It is closed: the line has one, whose place any other might take.
-    Refused,
-    /// It is closed: the port changes, or has changed.
-    Gone,
 }
 
 /// The port of a line's own, if it has one. The line's port and its link share it, on the line's thread, with whoever changes it.
@@ -134,18 +123,15 @@ impl LineListener {
         let Some(port) = hold(&self.own) else {
             return Met::Gone;
         };
-        if !port.is_of(&own) {
-            return Met::Gone;
-        }
-        if port.admits_any() {
-            return Met::Refused;
-        }
-        match hold(&self.next) {
-            Some(mut next) => {
-                *next = Some(own);
-                Met::Next
-            }
-            None => Met::Gone,
+        match port.meets(&own) {
+            Met::Next => match hold(&self.next) {
+                Some(mut next) => {
+                    *next = Some(own);
+                    Met::Next
+                }
+                None => Met::Gone,
+            },
+            met => met,
         }
     }
 

@@ -21,7 +21,7 @@ pub(crate) struct LinePlace {
     /// The number of the line's thread.
     pub(crate) thread: usize,
     pub(crate) period: Period,
-    pub(crate) own: Arc<LineListener>,
+    pub(crate) own: LineListener,
     pub(crate) behind: Arc<RouterLine>,
     pub(crate) links: Arc<ThreadLinks>,
 }
@@ -101,7 +101,7 @@ impl LinePlace {
         self.own.look_again();
         if let Some(waker) = self.own.share.waker() {
             waker.refill();
-            waker.wake_if_asleep();
+            waker.ring();
         }
     }
 }

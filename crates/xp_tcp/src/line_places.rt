@@ -33,6 +33,11 @@ impl LinePlaces {
         let _ = self.served.try_set(places);
     }
 
+    /// The door for the routers, if there is one.
+    pub(crate) fn door(&self) -> Option<&Arc<Doorway>> {
+        self.served()?.door.as_ref()
+    }
+
     /// The places, if they are known.
     pub(crate) fn served(&self) -> Option<&ServedPlaces> {
         self.served.get()

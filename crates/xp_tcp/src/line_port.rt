@@ -1,6 +1,6 @@
 //! The ports and links of lines of both kinds.
 
-ghost use Rattle.std.specs.Prelude.{◌≡◌, ◌≢◌, ◌≤◌, IfOk, length};
+ghost use Rattle.std.specs.Prelude.{◌≡◌, ◌≢◌, ◌≤◌, length};
 ghost use Rattle.xp_links.specs.Counts.{pulled_count, pushed_count};
 ghost use Rattle.xp_tcp.specs.Accesses.{first_origin};
 
@@ -8,10 +8,9 @@ use crate::line_place::LinePlace;
 use crate::line_sockets::LineSockets;
 use crate::link::TcpLink;
 use crate::period::Standing;
-use crate::port::TcpPort;
+use crate::port::next_of_port;
 use crate::router_link::RouterLink;
-use crate::router_port::RouterPort;
-use std::alloc::AllocError;
+use crate::router_port::next_of_router;
 use std::marker::Model;
 use std::sync::Arc;
 use xp_links::{Arrived, Link, Port, Pulled, Pushed};
@@ -22,19 +21,13 @@ use xp_past::Past;
 pub struct LinePort {
     first: Past<LineSockets>,
     place: Arc<LinePlace>,
-    own: TcpPort,
-    behind: RouterPort,
 }
 
 impl Drop for LinePort {
     fn drop(self) {
-        let LinePort {
-            first: _,
-            place,
-            own: _,
-            behind: _,
-        } = self;
+        let LinePort { first: _, place } = self;
         place.own.close();
+        place.behind.close();
     }
 }
 
@@ -48,25 +41,10 @@ impl Model for LinePort {
 
 impl LinePort {
     /// The port of a line in this place, which begins so.
-    pub(crate) fn new(
-        first: Past<LineSockets>,
-        place: Arc<LinePlace>,
-    ) -> Result<LinePort, AllocError>
-        ensures { IfOk result (λ port. port ≡ first_origin first.items) }
+    pub(crate) fn new(first: Past<LineSockets>, place: Arc<LinePlace>) -> LinePort
+        ensures { result ≡ first_origin first.items }
     {
-        let share = place.own.share.try_clone()?;
-        let own = TcpPort::new(Arc::try_clone(&place.own)?, Arc::try_clone(&place.links)?);
-        let behind = RouterPort::new(
-            Arc::try_clone(&place.behind)?,
-            Arc::try_clone(&place.links)?,
-            share,
-        );
-        Ok(LinePort {
-            first,
-            place,
-            own,
-            behind,
-        })
+        LinePort { first, place }
     }
 }
 
@@ -79,13 +57,10 @@ impl Port for LinePort {
         let Some(period) = self.place.period.open() else {
             return Arrived::Nothing;
         };
-        let Ok(place) = Arc::try_clone(&self.place) else {
-            return Arrived::Nothing;
-        };
-        if self.behind.is_behind() {
-            by_router(place, period, self.behind.next())
+        if self.place.behind.is_behind() {
+            next_of_router(&self.place, period)
         } else {
-            by_port(place, self.own.next())
+            next_of_port(&self.place)
         }
     }
 }
@@ -93,15 +68,14 @@ impl Port for LinePort {
 /// A link of a line. It is over once the line is gone, or has another port or router. No octets pass on it while the line's place is
 /// held.
 pub struct LineLink {
-    place: Arc<LinePlace>,
-    /// The period of the place in which it began.
-    period: u64,
-    link: KindOfLink,
+    /// The period of its place in which it began.
+    pub(crate) period: u64,
+    pub(crate) link: KindOfLink,
 }
 
 /// A link of either kind.
 #[derive(Drop)]
-enum KindOfLink {
+pub(crate) enum KindOfLink {
     /// A connection to the line's own TCP port.
     Own(TcpLink),
     /// The link of a line behind a router.
@@ -110,11 +84,7 @@ enum KindOfLink {
 
 impl Drop for LineLink {
     fn drop(self) {
-        let LineLink {
-            place: _,
-            period: _,
-            link: _,
-        } = self;
+        let LineLink { period: _, link: _ } = self;
     }
 }
 
@@ -123,7 +93,7 @@ impl Link for LineLink {
         ensures bound { pulled_count result ≤ length into.new }
         ensures some { result ≢ Pulled.Octets 0 }
     {
-        match self.place.standing(self.period) {
+        match self.link.standing(self.period) {
             Standing::Open => self.link.pull(into),
             Standing::Held => Pulled::Nothing,
             Standing::Over => Pulled::Ended,
@@ -133,10 +103,20 @@ impl Link for LineLink {
     fn push(&mut self, from: &[u8]) -> Pushed
         ensures bound { pushed_count result ≤ length from.now }
     {
-        match self.place.standing(self.period) {
+        match self.link.standing(self.period) {
             Standing::Open => self.link.push(from),
             Standing::Held => Pushed::Nothing,
             Standing::Over => Pushed::Fault,
+        }
+    }
+}
+
+impl KindOfLink {
+    /// What it may do where it began in this period.
+    fn standing(&self, period: u64) -> Standing {
+        match self {
+            KindOfLink::Own(link) => link.place.standing(period),
+            KindOfLink::Router(link) => link.place.standing(period),
         }
     }
 }
@@ -159,31 +139,5 @@ impl Link for KindOfLink {
             KindOfLink::Own(link) => link.push(from),
             KindOfLink::Router(link) => link.push(from),
         }
-    }
-}
-
-/// What a router has for the line of this place in this period.
-fn by_router(place: Arc<LinePlace>, period: u64, next: Arrived<RouterLink>) -> Arrived<LineLink> {
-    match next {
-        Arrived::Came(link) => Arrived::Came(LineLink {
-            place,
-            period,
-            link: KindOfLink::Router(link),
-        }),
-        Arrived::Nothing => Arrived::Nothing,
-        Arrived::Fault => Arrived::Fault,
-    }
-}
-
-/// What its own port has for the line of this place. A connection counts for the period in which it came.
-fn by_port(place: Arc<LinePlace>, next: Arrived<TcpLink>) -> Arrived<LineLink> {
-    match next {
-        Arrived::Came(link) => Arrived::Came(LineLink {
-            place,
-            period: link.period(),
-            link: KindOfLink::Own(link),
-        }),
-        Arrived::Nothing => Arrived::Nothing,
-        Arrived::Fault => Arrived::Fault,
     }
 }

@@ -3,10 +3,12 @@
 ghost use Rattle.std.specs.Prelude.{◌≡◌, ◌<◌, IfOk};
 ghost use Rattle.std.specs.Net.Socket.{socket_port};
 ghost use Rattle.xp_tcp.specs.Accesses.{access_of};
-ghost use Rattle.xp_tcp.specs.steps.Sources.{IsListening, source_origin};
+ghost use Rattle.xp_tcp.specs.steps.Sources.{IsListening, IsParted, source_origin};
 
 use crate::access::Access;
 use crate::admission::Admission;
+use crate::own_port::OwnPort;
+use crate::period::FIRST_PERIOD;
 use crate::thread_links::ThreadLinks;
 use crate::tokens::listener_of;
 use mio::net::TcpListener;
@@ -19,7 +21,6 @@ use xp_door::Caller;
 use xp_subs::LineNo;
 
 /// Where the connections of one line are to come from.
-#[derive(Drop)]
 pub(crate) enum LineSource {
     /// A socket that listens on a port of the line's own, and from where its connections may come.
     Own(u16, TcpListener, Admission),
@@ -27,6 +28,29 @@ pub(crate) enum LineSource {
     Router(SocketAddr, Caller),
     /// Nowhere: the place is spare.
     Spare,
+}
+
+impl Drop for LineSource {
+    fn drop(self) {
+        match self {
+            LineSource::Own(_, _, _) | LineSource::Router(_, _) | LineSource::Spare => {}
+        }
+    }
+}
+
+impl LineSource {
+    /// The port of a line's own, if it has one, and its router, if it is behind one.
+    pub(crate) fn into_parts(self) -> (OwnPort, Option<(SocketAddr, Caller)>)
+        ensures { IsParted self result.0 result.1 }
+    {
+        match self {
+            LineSource::Own(port, listener, admission) => {
+                (OwnPort::new(listener, port, admission, FIRST_PERIOD), None)
+            }
+            LineSource::Router(router, caller) => (OwnPort::none(), Some((router, caller))),
+            LineSource::Spare => (OwnPort::none(), None),
+        }
+    }
 }
 
 /// A line, and where its connections come from, which is all that contracts see of it.

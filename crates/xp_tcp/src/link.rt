@@ -5,10 +5,8 @@ ghost use Rattle.std.specs.IoError.{error_kind};
 ghost use Rattle.xp_links.specs.Counts.{pulled_count, pushed_count};
 
 use crate::connection_notes::ConnectionNotes;
-use crate::line_listener::LineListener;
+use crate::line_place::LinePlace;
 use crate::options::{Patience, notice_dead_peer};
-use crate::own_port::OwnArrival;
-use crate::thread_links::ThreadLinks;
 use crate::tokens::stream_of;
 use mio::net::TcpStream;
 use mio::{Interest, Registry};
@@ -22,10 +20,7 @@ use xp_links::{Link, Pulled, Pushed};
 /// dropped. A peer that is gone ends it within some 90 seconds. It ends where another connection takes its place.
 pub(crate) struct TcpLink {
     stream: TcpStream,
-    /// The period of the line's place in which the connection came.
-    period: u64,
-    listener: Arc<LineListener>,
-    links: Arc<ThreadLinks>,
+    pub(crate) place: Arc<LinePlace>,
     notes: ConnectionNotes,
 }
 
@@ -33,44 +28,31 @@ impl Drop for TcpLink {
     fn drop(self) {
         let TcpLink {
             stream,
-            period: _,
-            listener,
-            links,
+            place,
             notes,
         } = self;
-        let line = listener.share.line;
+        let line = place.line;
         let reason = notes.reason();
-        listener.share.tell_down(Notice::Down { line, reason });
-        links.let_go(stream);
+        place.own.share.tell_down(Notice::Down { line, reason });
+        place.links.let_go(stream);
     }
 }
 
 impl TcpLink {
-    /// The link of a connection, for which the line's thread waits from now on.
-    pub(crate) fn new(
-        own: OwnArrival,
-        listener: Arc<LineListener>,
-        links: Arc<ThreadLinks>,
-    ) -> io::Result<TcpLink> {
-        let OwnArrival { arrival, period } = own;
+    /// The link of a connection of the line in this place, for which the line's thread waits from now on.
+    pub(crate) fn new(arrival: Arrival, place: Arc<LinePlace>) -> io::Result<TcpLink> {
         let Arrival { stream, peer } = arrival;
         let mut stream = stream;
-        wait_for(&mut stream, &links.waits, &listener.share, Patience::Line)?;
-        let line = listener.share.line;
-        listener.share.tell_up(Notice::Up { line, peer });
-        let notes = ConnectionNotes::new(&listener.share, Patience::Line);
+        let share = &place.own.share;
+        wait_for(&mut stream, &place.links.waits, share, Patience::Line)?;
+        let line = place.line;
+        share.tell_up(Notice::Up { line, peer });
+        let notes = ConnectionNotes::new(share, Patience::Line);
         Ok(TcpLink {
             stream,
-            period,
-            listener,
-            links,
+            place,
             notes,
         })
-    }
-
-    /// The period of the line's place in which the connection came.
-    pub(crate) fn period(&self) -> u64 {
-        self.period
     }
 }
 
@@ -160,21 +142,22 @@ impl Link for TcpLink {
         if into.is_empty() {
             return Pulled::Nothing;
         }
-        if self.listener.is_replaced() {
+        if self.place.own.is_replaced() {
             self.notes.end(DownReason::Replaced);
             return Pulled::Ended;
         }
-        let Some(waker) = self.listener.share.waker() else {
+        let share = &self.place.own.share;
+        let Some(waker) = share.waker() else {
             return Pulled::Fault;
         };
         let pulled = read_from(&mut self.stream, waker, &mut self.notes, into);
-        self.notes.note_pulled(&self.listener.share, into, pulled);
+        self.notes.note_pulled(share, into, pulled);
         pulled
     }
 
     fn push(&mut self, from: &[u8]) -> Pushed {
         let pushed = write_to(&mut self.stream, &mut self.notes, from);
-        self.notes.note_pushed(&self.listener.share, from, pushed);
+        self.notes.note_pushed(&self.place.own.share, from, pushed);
         pushed
     }
 }

@@ -16,12 +16,11 @@ use xp_door::Caller;
 pub(crate) enum NextSocket {
     /// This one, for which the line's thread waits already.
     Bound(TcpListener),
-    /// That of the place with this number, whose port is the same.
-    Of(usize),
+    /// That of this place, whose port is the same.
+    Of(Arc<LinePlace>),
 }
 
 /// Where the connections of a line are to come from.
-#[derive(Drop)]
 pub(crate) enum NextSource {
     /// A port of the line's own, and from where its connections may come.
     Own(u16, Admission, NextSocket),
@@ -31,9 +30,34 @@ pub(crate) enum NextSource {
     Spare,
 }
 
+impl Drop for NextSource {
+    fn drop(self) {
+        match self {
+            NextSource::Own(_, _, _) | NextSource::Router(_, _) | NextSource::Spare => {}
+        }
+    }
+}
+
+impl NextSource {
+    /// Gives a place its own port, if it is to have one: another one, or where it keeps the port, the sources of it.
+    fn put<R: Wait>(self, rt: &R, place: &LinePlace, is_kept: bool) {
+        match self {
+            NextSource::Own(port, admission, socket) => {
+                if is_kept {
+                    place.own.set_admission(rt, admission);
+                } else {
+                    put_port(rt, place, port, admission, socket);
+                }
+            }
+            NextSource::Router(_, _) | NextSource::Spare => {}
+        }
+    }
+}
+
 /// What a place is to have next. Contracts see whether it keeps its line, and where its connections come from.
 #[derive(Drop)]
 pub(crate) struct NextLine {
+    pub(crate) place: Arc<LinePlace>,
     /// Whether the place keeps its line, with its port or its router.
     pub(crate) is_kept: bool,
     pub(crate) source: NextSource,
@@ -50,39 +74,32 @@ impl Model for NextLine {
 
 impl NextLine {
     /// Holds its place, unless that keeps its line.
-    pub(crate) fn hold(&self, place: &LinePlace) {
+    pub(crate) fn hold(&self) {
         if !self.is_kept {
-            place.hold();
+            self.place.hold();
         }
     }
 
     /// It does not come: its place goes on where it was held, and its thread does not wait for a socket of another place any more.
-    pub(crate) fn give_up(&self, place: &LinePlace, places: &[Arc<LinePlace>], is_held: bool) {
-        if let NextSource::Own(_, _, NextSocket::Of(number)) = &self.source {
-            if let Some(other) = places.get(*number) {
-                place.expect_no_more(other);
-            }
+    pub(crate) fn give_up(&self, is_held: bool) {
+        if let NextSource::Own(_, _, NextSocket::Of(other)) = &self.source {
+            self.place.expect_no_more(other);
         }
         if is_held && !self.is_kept {
-            place.release();
+            self.place.release();
         }
     }
 
     /// Takes the socket of another place, which is to be that of its own place.
-    pub(crate) fn take_socket<R: Wait>(
-        &mut self,
-        rt: &R,
-        place: &LinePlace,
-        places: &[Arc<LinePlace>],
-    )
+    pub(crate) fn take_socket<R: Wait>(&mut self, rt: &R)
         ensures { self.new ≡ self.old }
     {
         if self.is_kept {
             return;
         }
         if let NextSource::Own(_, _, socket) = &mut self.source {
-            if let NextSocket::Of(number) = socket {
-                if let Some(listener) = taken_from(rt, place, places, *number) {
+            if let NextSocket::Of(other) = socket {
+                if let Some(listener) = self.place.take_from(rt, other) {
                     *socket = NextSocket::Bound(listener);
                 }
             }
@@ -90,30 +107,28 @@ impl NextLine {
     }
 
     /// Takes port, router and connection from its place, unless that keeps its line.
-    pub(crate) fn clear<R: Wait>(&self, rt: &R, place: &LinePlace) {
+    pub(crate) fn clear<R: Wait>(&self, rt: &R) {
         if !self.is_kept {
-            place.clear(rt);
+            self.place.clear(rt);
         }
     }
 
     /// Puts its place behind its router, if it has another one.
-    pub(crate) fn set_router<R: Wait>(&self, rt: &R, place: &LinePlace) {
+    pub(crate) fn set_router<R: Wait>(&self, rt: &R) {
         match &self.source {
-            NextSource::Router(router, _) if !self.is_kept => place.set_router(rt, *router),
+            NextSource::Router(router, _) if !self.is_kept => self.place.set_router(rt, *router),
             _ => {}
         }
     }
 
     /// Gives its place its own port, if it has another one, or the sources of the same one, and lets the place go on.
-    pub(crate) fn put<R: Wait>(self, rt: &R, place: &LinePlace) {
-        let NextLine { is_kept, source } = self;
-        if let NextSource::Own(port, admission, socket) = source {
-            if is_kept {
-                place.own.set_admission(rt, admission);
-            } else {
-                put_port(rt, place, port, admission, socket);
-            }
-        }
+    pub(crate) fn put<R: Wait>(self, rt: &R) {
+        let NextLine {
+            place,
+            is_kept,
+            source,
+        } = self;
+        source.put(rt, &place, is_kept);
         if !is_kept {
             place.release();
         }
@@ -138,14 +153,4 @@ fn put_port<R: Wait>(
         // The place has none from which it is taken: the thread of that line has ended.
         NextSocket::Of(_) => {}
     }
-}
-
-/// The socket of the place with this number, which moves to another one.
-fn taken_from<R: Wait>(
-    rt: &R,
-    place: &LinePlace,
-    places: &[Arc<LinePlace>],
-    number: usize,
-) -> Option<TcpListener> {
-    place.take_from(rt, places.get(number)?)
 }

@@ -6,6 +6,7 @@ ghost use Rattle.xp_tcp.specs.Accesses.{AtPort, Behind, Spare};
 
 use crate::admission::Admission;
 use crate::door_sockets::listen_for_routers;
+use crate::line_place::LinePlace;
 use crate::line_places::{LinePlaces, ServedPlaces};
 use crate::line_sockets::listen_at;
 use crate::next_line::{NextLine, NextSocket, NextSource};
@@ -16,7 +17,7 @@ use std::alloc::{AllocError, Global};
 use std::marker::Model;
 use std::net::{Net, SocketAddr};
 use std::sync::{Arc, Wait};
-use xp_door::{Caller, RoutedLine, Routes};
+use xp_door::{Caller, Doorway, RoutedLine, Routes};
 
 /// What becomes of the port of the door.
 #[derive(Drop)]
@@ -48,7 +49,7 @@ pub struct NextPorts {
 impl Drop for NextPorts {
     fn drop(self) {
         let NextPorts {
-            places,
+            places: _,
             ports: _,
             lines,
             routes: _,
@@ -56,10 +57,8 @@ impl Drop for NextPorts {
             is_held,
             is_cleared: _,
         } = self;
-        if let Some(served) = places.served() {
-            for (line, place) in lines.iter().zip(served.lines.iter()) {
-                line.give_up(place, &served.lines, is_held);
-            }
+        for line in &lines {
+            line.give_up(is_held);
         }
     }
 }
@@ -115,10 +114,11 @@ impl NextPorts {
         ensures ok { OnOk result (self.new ≡ self.old ++ record { is_kept = is_kept; origin = AtPort (socket_port at) admission } ∷ []) }
         ensures err { OnErr result (self.new ≡ self.old) }
     {
-        let number = self.lines.len();
+        let place = self.next_place()?;
         self.lines.reserve(1)?;
-        let socket = self.socket_for(rt, number, at)?;
+        let socket = self.socket_for(rt, &place, at)?;
         self.lines.push_reserved(NextLine {
+            place,
             is_kept,
             source: NextSource::Own(at.port(), admission, socket),
         });
@@ -129,7 +129,7 @@ impl NextPorts {
     ///
     /// # Errors
     ///
-    /// `AllocError` if an allocation fails. Nothing has changed then.
+    /// `AllocError` if an allocation fails, or there is no such place. Nothing has changed then.
     pub fn add_router(
         &mut self,
         router: SocketAddr,
@@ -139,7 +139,9 @@ impl NextPorts {
         ensures ok { OnOk result (self.new ≡ self.old ++ record { is_kept = is_kept; origin = Behind router caller } ∷ []) }
         ensures err { OnErr result (self.new ≡ self.old) }
     {
+        let place = self.next_place()?;
         self.push(NextLine {
+            place,
             is_kept,
             source: NextSource::Router(router, caller),
         })
@@ -149,15 +151,24 @@ impl NextPorts {
     ///
     /// # Errors
     ///
-    /// `AllocError` if an allocation fails. Nothing has changed then.
+    /// `AllocError` if an allocation fails, or there is no such place. Nothing has changed then.
     pub fn add_spare(&mut self, is_kept: bool) -> Result<(), AllocError>
         ensures ok { OnOk result (self.new ≡ self.old ++ record { is_kept = is_kept; origin = Spare } ∷ []) }
         ensures err { OnErr result (self.new ≡ self.old) }
     {
+        let place = self.next_place()?;
         self.push(NextLine {
+            place,
             is_kept,
             source: NextSource::Spare,
         })
+    }
+
+    /// The place that is told next.
+    fn next_place(&self) -> Result<Arc<LinePlace>, AllocError> {
+        let served = self.places.served().ok_or(AllocError)?;
+        let place = served.lines.get(self.lines.len()).ok_or(AllocError)?;
+        Arc::try_clone(place)
     }
 
     fn push(&mut self, line: NextLine) -> Result<(), AllocError>
@@ -186,10 +197,10 @@ impl NextPorts {
         let Some(served) = self.places.served() else {
             return Err(ListenFault::Memory);
         };
-        let routes = Routes::new(alloc, routed_of(alloc, &self.lines, served)?)?;
+        let routes = Routes::new(alloc, routed_of(alloc, &self.lines)?)?;
         let door = next_door(rt, served, door)?;
-        for (line, place) in self.lines.iter().zip(served.lines.iter()) {
-            line.hold(place);
+        for line in &self.lines {
+            line.hold();
         }
         self.routes = Some(routes);
         self.door = door;
@@ -205,14 +216,11 @@ impl NextPorts {
             return;
         }
         self.is_cleared = true;
-        let Some(served) = self.places.served() else {
-            return;
-        };
-        for (line, place) in self.lines.iter_mut().zip(served.lines.iter()) {
-            line.take_socket(rt, place, &served.lines);
+        for line in self.lines.iter_mut() {
+            line.take_socket(rt);
         }
-        for (line, place) in self.lines.iter().zip(served.lines.iter()) {
-            line.clear(rt, place);
+        for line in &self.lines {
+            line.clear(rt);
         }
     }
 
@@ -235,39 +243,43 @@ impl NextPorts {
             is_held: _,
             is_cleared: _,
         } = self;
-        let Some(served) = places.served() else {
-            return;
-        };
-        put_routes(rt, served, &lines, routes);
-        put_door(rt, served, door);
-        for (line, place) in lines.into_iter().zip(served.lines.iter()) {
-            line.put(rt, place);
+        let doorway = places.door();
+        put_routes(rt, doorway, &lines, routes);
+        put_door(rt, doorway, door);
+        for line in lines {
+            line.put(rt);
         }
     }
 
-    /// The socket that listens at this address for the place with this number.
+    /// The socket that listens at this address for this place.
     fn socket_for<R: Net + Wait>(
         &self,
         rt: &R,
-        number: usize,
+        place: &LinePlace,
         at: SocketAddr,
     ) -> Result<NextSocket, ListenFault> {
-        let Some(served) = self.places.served() else {
-            return Err(ListenFault::Memory);
-        };
-        let Some(place) = served.lines.get(number) else {
-            return Err(ListenFault::Memory);
-        };
-        let port = at.port();
-        if let Ok(index) = self.ports.binary_search_by_key(&port, |entry| entry.0) {
-            let (_, other) = self.ports[index];
-            if let Some(holder) = served.lines.get(other) {
-                place.expect(rt, holder)?;
-                return Ok(NextSocket::Of(other));
+        match self.holder_of(at.port()) {
+            Some(holder) => {
+                let holder = Arc::try_clone(holder)?;
+                place.expect(rt, &holder)?;
+                Ok(NextSocket::Of(holder))
+            }
+            None => {
+                let name = listener_of(place.line);
+                let (listener, _port) = listen_at(rt, &place.links.waits, at, name)?;
+                Ok(NextSocket::Bound(listener))
             }
         }
-        let (listener, _port) = listen_at(rt, &place.links.waits, at, listener_of(place.line))?;
-        Ok(NextSocket::Bound(listener))
+    }
+
+    /// The place that has this port now.
+    fn holder_of(&self, port: u16) -> Option<&Arc<LinePlace>> {
+        let index = self
+            .ports
+            .binary_search_by_key(&port, |entry| entry.0)
+            .ok()?;
+        let (_, number) = *self.ports.get(index)?;
+        self.places.served()?.lines.get(number)
     }
 }
 
@@ -285,21 +297,17 @@ fn ports_of<R: Wait>(
             }
         }
     }
-    ports.sort_by_key(|entry| entry.0)?;
+    ports.sort()?;
     Ok(ports)
 }
 
 /// The lines that are to be behind routers, in line order.
-fn routed_of(
-    alloc: Global,
-    lines: &[NextLine],
-    served: &ServedPlaces,
-) -> Result<Vec<RoutedLine>, AllocError> {
+fn routed_of(alloc: Global, lines: &[NextLine]) -> Result<Vec<RoutedLine>, AllocError> {
     let mut routed = Vec::new(alloc);
-    for (line, place) in lines.iter().zip(served.lines.iter()) {
+    for line in lines {
         if let NextSource::Router(router, caller) = &line.source {
             routed.push(RoutedLine {
-                line: Arc::try_clone(&place.behind)?,
+                line: Arc::try_clone(&line.place.behind)?,
                 router: *router,
                 caller: caller.copy(),
             })?;
@@ -324,20 +332,25 @@ fn next_door<R: Net + Wait>(
 }
 
 /// Puts lines behind their routers, and has the door give them connections by that, in one moment for the door.
-fn put_routes<R: Wait>(rt: &R, served: &ServedPlaces, lines: &[NextLine], routes: Option<Routes>) {
-    let (Some(door), Some(next)) = (&served.door, routes) else {
+fn put_routes<R: Wait>(
+    rt: &R,
+    door: Option<&Arc<Doorway>>,
+    lines: &[NextLine],
+    routes: Option<Routes>,
+) {
+    let (Some(door), Some(next)) = (door, routes) else {
         return;
     };
     let mut routes = door.routes(rt);
-    for (line, place) in lines.iter().zip(served.lines.iter()) {
-        line.set_router(rt, place);
+    for line in lines {
+        line.set_router(rt);
     }
     *routes = next;
 }
 
 /// Opens or closes the door's port.
-fn put_door<R: Wait>(rt: &R, served: &ServedPlaces, next: NextDoor) {
-    let Some(door) = &served.door else {
+fn put_door<R: Wait>(rt: &R, door: Option<&Arc<Doorway>>, next: NextDoor) {
+    let Some(door) = door else {
         return;
     };
     match next {

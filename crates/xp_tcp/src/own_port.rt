@@ -32,6 +32,17 @@ pub(crate) struct OwnArrival {
     pub(crate) period: u64,
 }
 
+/// What becomes of a connection that comes while the line has one.
+#[derive(Clone, Copy)]
+pub(crate) enum Met {
+    /// It takes the place of the line's.
+    Next,
+    /// It is closed: the line has one, whose place any other might take.
+    Refused,
+    /// It is closed: the port changes, or has changed.
+    Gone,
+}
+
 /// The socket that listens at a line's own port, if it has one, and from where its connections may come.
 #[derive(Drop)]
 pub(crate) struct OwnPort {
@@ -95,14 +106,16 @@ impl OwnPort {
         }
     }
 
-    /// Whether a connection has come in the period in which the line has this port.
-    pub(crate) fn is_of(&self, own: &OwnArrival) -> bool {
-        self.listener.is_some() && self.period == own.period
-    }
-
-    /// Whether connections may come from any address.
-    pub(crate) fn admits_any(&self) -> bool {
-        self.admission.is_any()
+    /// What becomes of a connection that has come while the line has one: it takes that one's place where the line's addresses are named.
+    /// One that has not come in the period in which the line has this port is closed.
+    pub(crate) fn meets(&self, own: &OwnArrival) -> Met {
+        if self.listener.is_none() || self.period != own.period {
+            Met::Gone
+        } else if self.admission.is_any() {
+            Met::Refused
+        } else {
+            Met::Next
+        }
     }
 
     /// From where connections may come that come from now on.

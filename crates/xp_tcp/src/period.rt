@@ -7,7 +7,7 @@ use std::sync::atomic::{AtomicBool, AtomicU64};
 pub(crate) const FIRST_PERIOD: u64 = 0;
 
 /// What a link of a place may do.
-#[derive(Clone, Copy, PartialEq)]
+#[derive(Clone, Copy)]
 pub(crate) enum Standing {
     /// Its octets pass.
     Open,

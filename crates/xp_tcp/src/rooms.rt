@@ -1,27 +1,25 @@
 //! The places of lines, as they are made.
 
 ghost use Rattle.std.specs.Prelude.{◌≡◌, IfOk};
-ghost use Rattle.xp_tcp.specs.steps.Sources.{IsParted};
 
+use crate::door_sockets::DoorSockets;
 use crate::ends::Shared;
 use crate::line_listener::LineListener;
 use crate::line_place::LinePlace;
 use crate::line_port::LinePort;
-use crate::line_sockets::{LineSockets, LineSource};
-use crate::own_port::OwnPort;
-use crate::period::{FIRST_PERIOD, Period};
+use crate::line_sockets::LineSockets;
+use crate::period::Period;
 use std::alloc::{AllocError, Global};
-use std::mem;
 use std::net::SocketAddr;
 use std::sync::Arc;
-use xp_door::{Caller, LineShare, RoutedLine, RouterLine};
+use xp_door::{Caller, DoorBell, LineShare, RoutedLine, RouterLine};
 use xp_past::Past;
 
 /// The places so far, in line order, and which of them are behind routers.
 #[derive(Drop)]
 pub(crate) struct Rooms {
-    places: Vec<Arc<LinePlace>>,
-    routed: Vec<RoutedLine>,
+    pub(crate) places: Vec<Arc<LinePlace>>,
+    pub(crate) routed: Vec<RoutedLine>,
 }
 
 impl Rooms {
@@ -33,16 +31,18 @@ impl Rooms {
         })
     }
 
-    /// Adds the place of the next line, and returns its port.
+    /// Adds the place of the next line, where there is this door, and returns its port.
     pub(crate) fn add(
         &mut self,
         alloc: Global,
         shared: &Shared,
+        door: &Option<DoorSockets>,
         line: LineSockets,
     ) -> Result<LinePort, AllocError>
         ensures { IfOk result (λ port. port ≡ line) }
     {
         let share = LineShare::new(line.line, &shared.wakers, &shared.places.notices)?;
+        let bell = bell_of(door)?;
         let first = Past::new().and(&line);
         let LineSockets {
             line,
@@ -50,19 +50,19 @@ impl Rooms {
             links,
             thread,
         } = line;
-        let (own, router) = parts_of(source);
-        let behind = RouterLine::new(line, address_of(&router), shared.bell_again()?);
+        let (own, router) = source.into_parts();
+        let behind = RouterLine::new(line, address_of(&router), bell);
         let place = LinePlace {
             line,
             thread,
             period: Period::new(),
-            own: Arc::new(alloc, LineListener::new(own, share))?,
+            own: LineListener::new(own, share),
             behind: Arc::new(alloc, behind)?,
             links,
         };
         let place = Arc::new(alloc, place)?;
         self.push(Arc::try_clone(&place)?, router)?;
-        LinePort::new(first, place)
+        Ok(LinePort::new(first, place))
     }
 
     /// Adds a place, which is behind this router, if it is behind one.
@@ -82,38 +82,25 @@ impl Rooms {
         self.places.push(place)?;
         Ok(())
     }
-
-    /// Those that are behind routers. From now on there are none here.
-    pub(crate) fn take_routed(&mut self) -> Vec<RoutedLine> {
-        let alloc = *self.routed.allocator();
-        mem::replace(&mut self.routed, Vec::new(alloc))
-    }
-
-    /// What each of them shares with the door, in line order.
-    pub(crate) fn router_lines(&self, alloc: Global) -> Result<Vec<Arc<RouterLine>>, AllocError> {
-        let mut lines = Vec::with_capacity(alloc, self.places.len())?;
-        for place in &self.places {
-            lines.push(Arc::try_clone(&place.behind)?)?;
-        }
-        Ok(lines)
-    }
-
-    /// The places.
-    pub(crate) fn into_places(self) -> Vec<Arc<LinePlace>> {
-        self.places
-    }
 }
 
-/// The port of a line's own, if it has one, and its router, if it is behind one.
-fn parts_of(source: LineSource) -> (OwnPort, Option<(SocketAddr, Caller)>)
-    ensures { IsParted source result.0 result.1 }
-{
-    match source {
-        LineSource::Own(port, listener, admission) => {
-            (OwnPort::new(listener, port, admission, FIRST_PERIOD), None)
-        }
-        LineSource::Router(router, caller) => (OwnPort::none(), Some((router, caller))),
-        LineSource::Spare => (OwnPort::none(), None),
+/// What each of these places shares with the door, in line order.
+pub(crate) fn router_lines(
+    alloc: Global,
+    places: &[Arc<LinePlace>],
+) -> Result<Vec<Arc<RouterLine>>, AllocError> {
+    let mut lines = Vec::with_capacity(alloc, places.len())?;
+    for place in places {
+        lines.push(Arc::try_clone(&place.behind)?)?;
+    }
+    Ok(lines)
+}
+
+/// The bell of a door, if it was opened.
+fn bell_of(door: &Option<DoorSockets>) -> Result<Option<Arc<DoorBell>>, AllocError> {
+    match door {
+        Some(door) => Ok(Some(Arc::try_clone(&door.bell)?)),
+        None => Ok(None),
     }
 }
 

@@ -3,17 +3,17 @@
 ghost use Rattle.std.specs.Prelude.{◌≡◌, ◌≢◌, ◌≤◌, length};
 ghost use Rattle.xp_links.specs.Counts.{pulled_count, pushed_count};
 
+use crate::line_place::LinePlace;
 use crate::link::wait_for;
 use crate::options::Patience;
 use crate::router_connection::RouterConnection;
-use crate::thread_links::ThreadLinks;
 use mio::net::TcpStream;
 use std::mem;
 use std::sync::Arc;
 use std::time::Duration;
 use xp_clearing::begins_with_call;
 use xp_clock::uptime;
-use xp_door::{Arrival, Attempt, ConnectFault, LineShare, Notice, RouterLine};
+use xp_door::{Arrival, Attempt, ConnectFault, Notice};
 use xp_links::{Link, Pulled, Pushed};
 
 /// How long a connection to a router may take, in seconds.
@@ -39,9 +39,7 @@ enum Circuit {
 /// 30 seconds.
 pub(crate) struct RouterLink {
     circuit: Circuit,
-    line: Arc<RouterLine>,
-    links: Arc<ThreadLinks>,
-    share: LineShare,
+    pub(crate) place: Arc<LinePlace>,
     /// Whether it was pulled from or pushed into.
     was_used: bool,
 }
@@ -50,61 +48,48 @@ impl Drop for RouterLink {
     fn drop(self) {
         let RouterLink {
             circuit,
-            line,
-            links,
-            share,
+            place,
             was_used,
         } = self;
         match circuit {
             Circuit::Connected(connection) => {
-                let line = share.line;
+                let line = place.line;
                 let reason = connection.reason();
-                links.let_go(connection.into_stream());
-                share.tell_down(Notice::Down { line, reason });
+                place.links.let_go(connection.into_stream());
+                place.own.share.tell_down(Notice::Down { line, reason });
             }
             Circuit::Free | Circuit::Asked(_) | Circuit::Connecting(_, _) | Circuit::Failed => {}
         }
-        line.link_went(was_used);
-        line.release();
+        place.behind.link_went(was_used);
+        place.behind.release();
     }
 }
 
 impl RouterLink {
-    /// The link of a line, without a connection.
-    pub(crate) fn new(
-        line: Arc<RouterLine>,
-        links: Arc<ThreadLinks>,
-        share: LineShare,
-    ) -> RouterLink {
+    /// The link of the line in this place, without a connection.
+    pub(crate) fn new(place: Arc<LinePlace>) -> RouterLink {
         RouterLink {
             circuit: Circuit::Free,
-            line,
-            links,
-            share,
+            place,
             was_used: false,
         }
     }
 
     /// Takes the connection of the router that the door has given to the line, if it has.
     fn take_handed(&mut self) {
-        let Some(Arrival { stream, peer }) = self.line.take_handed() else {
+        let place = &self.place;
+        let Some(Arrival { stream, peer }) = place.behind.take_handed() else {
             return;
         };
         let mut stream = stream;
-        if wait_for(
-            &mut stream,
-            &self.links.waits,
-            &self.share,
-            Patience::Router,
-        )
-        .is_err()
-        {
-            self.line.release();
+        let share = &place.own.share;
+        if wait_for(&mut stream, &place.links.waits, share, Patience::Router).is_err() {
+            place.behind.release();
             return;
         }
-        let line = self.share.line;
-        self.share.tell_up(Notice::Up { line, peer });
-        self.circuit = Circuit::Connected(RouterConnection::from_router(stream, peer, &self.share));
+        let line = place.line;
+        share.tell_up(Notice::Up { line, peer });
+        self.circuit = Circuit::Connected(RouterConnection::from_router(stream, peer, share));
     }
 
     /// Makes the next step to a connection for these octets, which are to be pushed.
@@ -121,7 +106,7 @@ impl RouterLink {
 
     /// Asks the door for a connection. One of the router goes back to it.
     fn ask(&mut self, back: Option<Arrival>) {
-        self.circuit = if self.line.want(back) {
+        self.circuit = if self.place.behind.want(back) {
             Circuit::Asked(uptime().unwrap_or(Duration::MAX))
         } else {
             Circuit::Free
@@ -130,18 +115,15 @@ impl RouterLink {
 
     /// Takes the connection that the door has begun.
     fn begin(&mut self, since: Duration) {
-        match self.line.take_begun() {
+        match self.place.behind.take_begun() {
             Attempt::Waits if is_late(since) => self.fail(ConnectFault::NoAnswer),
             Attempt::Waits => self.circuit = Circuit::Asked(since),
             Attempt::Failed(fault) => self.fail(fault),
             Attempt::Begun(stream) => {
                 let mut stream = stream;
-                match wait_for(
-                    &mut stream,
-                    &self.links.waits,
-                    &self.share,
-                    Patience::Router,
-                ) {
+                let place = &self.place;
+                let share = &place.own.share;
+                match wait_for(&mut stream, &place.links.waits, share, Patience::Router) {
                     Ok(()) => self.connect(stream, since),
                     Err(error) => self.fail(ConnectFault::of(&error)),
                 }
@@ -156,9 +138,10 @@ impl RouterLink {
             Ok(Some(error)) | Err(error) => return self.fail(ConnectFault::of(&error)),
         }
         if let Ok(peer) = stream.peer_addr() {
-            let line = self.share.line;
-            self.share.tell_up(Notice::Connected { line, peer });
-            self.circuit = Circuit::Connected(RouterConnection::to_router(stream, &self.share));
+            let share = &self.place.own.share;
+            let line = share.line;
+            share.tell_up(Notice::Connected { line, peer });
+            self.circuit = Circuit::Connected(RouterConnection::to_router(stream, share));
         } else if is_late(since) {
             self.fail(ConnectFault::NoAnswer);
         } else {
@@ -168,8 +151,11 @@ impl RouterLink {
 
     /// No connection could be made.
     fn fail(&mut self, fault: ConnectFault) {
-        let line = self.share.line;
-        self.share.tell(Notice::NotConnected { line, fault });
+        let line = self.place.line;
+        self.place
+            .own
+            .share
+            .tell(Notice::NotConnected { line, fault });
         self.circuit = Circuit::Failed;
     }
 
@@ -185,8 +171,8 @@ impl RouterLink {
             return;
         }
         let mut stream = connection.into_stream();
-        let _ = self.links.waits.deregister(&mut stream);
-        self.share.forget_up();
+        let _ = self.place.links.waits.deregister(&mut stream);
+        self.place.own.share.forget_up();
         self.ask(Some(Arrival { stream, peer }));
     }
 
@@ -202,12 +188,13 @@ impl RouterLink {
     /// Closes the connection, over which no call goes any more. The line is free.
     fn close(&mut self) {
         let circuit = mem::replace(&mut self.circuit, Circuit::Free);
-        let line = self.share.line;
-        self.share.tell_down(Notice::Closed { line });
+        let place = &self.place;
+        let line = place.line;
+        place.own.share.tell_down(Notice::Closed { line });
         // A router that sees the end may connect again at once.
-        self.line.release();
+        place.behind.release();
         if let Circuit::Connected(connection) = circuit {
-            self.links.let_go(connection.into_stream());
+            place.links.let_go(connection.into_stream());
         }
     }
 }
@@ -237,7 +224,7 @@ impl Link for RouterLink {
         let Circuit::Connected(connection) = &mut self.circuit else {
             return Pulled::Nothing;
         };
-        match connection.pull(&self.share, into) {
+        match connection.pull(&self.place.own.share, into) {
             Pulled::Ended if connection.fresh_peer().is_some() => {
                 self.close();
                 Pulled::Nothing
@@ -256,7 +243,7 @@ impl Link for RouterLink {
         self.settle();
         self.step(from);
         let pushed = match &mut self.circuit {
-            Circuit::Connected(connection) => connection.push(&self.share, from),
+            Circuit::Connected(connection) => connection.push(&self.place.own.share, from),
             Circuit::Free | Circuit::Asked(_) | Circuit::Connecting(_, _) => Pushed::Nothing,
             Circuit::Failed => Pushed::Fault,
         };

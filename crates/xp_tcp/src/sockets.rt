@@ -8,12 +8,12 @@ ghost use Rattle.xp_tcp.specs.declared.sockets.ListenFault.TheVariants.{Memory a
 
 use crate::access::Access;
 use crate::admission::Admission;
-use crate::door_sockets::DoorSockets;
+use crate::door_sockets::{DoorSockets, listen_for_routers};
 use crate::ends::{Ends, Shared};
 use crate::line_places::LinePlaces;
 use crate::line_sockets::{LineSockets, LineSource, listen_at, open_port};
 use crate::thread_sockets::ThreadSockets;
-use std::alloc::{AllocError, Global};
+use std::alloc::{AllocError, AllocFailed, Global};
 use std::io;
 use std::marker::Model;
 use std::net::{IpAddr, Net, SocketAddr};
@@ -24,7 +24,7 @@ use xp_door::{Caller, LineWaker};
 use xp_subs::LineNo;
 
 /// Why a port is not listened on, or a line has no sockets.
-#[derive(Clone, Copy, Debug, Drop, PartialEq, Error)]
+#[derive(Clone, Copy, Debug, Error)]
 pub enum ListenFault {
     /// The port can't be had.
     #[error("the port can't be listened on")]
@@ -37,6 +37,14 @@ impl From<AllocError> for ListenFault {
     ghost from_gives = { λ _ fault. fault ≡ OutOfMemory };
 
     fn from(_refused: AllocError) -> ListenFault {
+        ListenFault::Memory
+    }
+}
+
+impl<T: Drop> From<AllocFailed<T>> for ListenFault {
+    ghost from_gives = { λ _ fault. fault ≡ OutOfMemory };
+
+    fn from(_refused: AllocFailed<T>) -> ListenFault {
         ListenFault::Memory
     }
 }
@@ -176,7 +184,7 @@ impl Sockets {
     {
         let mut door = DoorSockets::new(rt, alloc)?;
         if let Some(at) = at {
-            door.listen(rt, at)?;
+            door.listener = Some(listen_for_routers(rt, &door.waits, at)?);
         }
         self.door = Some(door);
         Ok(())
@@ -186,7 +194,10 @@ impl Sockets {
     pub fn access(&self, line: LineNo) -> Option<Access>
         ensures { result ≡ option_map access_of (slice_get self.now line) }
     {
-        self.lines.get(line as usize).map(|line| line.access())
+        match self.lines.get(line as usize) {
+            Some(line) => Some(line.access()),
+            None => None,
+        }
     }
 
     /// The port on which a line's socket listens. `None` where there is no such line, or it is behind a router.
@@ -202,7 +213,7 @@ impl Sockets {
     /// What the threads of the lines are given, in line order: each has the access of its line. All clocks count from when the run
     /// began.
     pub fn into_ends(self, alloc: Global) -> Result<Ends, AllocError>
-        ensures { IfOk result (λ ends. map (λ end. end.0) ends.lines.items ≡ self) }
+        ensures { IfOk result (λ ends. map (λ end. end.port) ends.lines.items ≡ self) }
     {
         let Sockets {
             lines,
@@ -212,7 +223,8 @@ impl Sockets {
             door,
             places,
         } = self;
-        let shared = Shared::of(alloc, wakers, places, &door)?;
+        let wakers = Arc::new(alloc, wakers)?;
+        let shared = Shared { wakers, places };
         shared.into_ends(alloc, lines, threads, door)
     }
 
@@ -224,11 +236,11 @@ impl Sockets {
             return Err(ListenFault::Port);
         };
         let most = self.lines_of_thread;
-        if !self
-            .threads
-            .last()
-            .is_some_and(|thread| thread.count < most)
-        {
+        let has_room = match self.threads.last() {
+            Some(thread) => thread.count < most,
+            None => false,
+        };
+        if !has_room {
             let alloc = *self.lines.allocator();
             self.threads.reserve(1)?;
             let thread = ThreadSockets::open(rt, alloc, most)?;

@@ -10,7 +10,7 @@ use std::net::IpAddr;
 use xp_door::is_same_host;
 
 /// From where connections may come.
-#[derive(Clone, Copy, Debug, PartialEq)]
+#[derive(Clone, Copy)]
 pub enum Source {
     /// The host of this address.
     Host(IpAddr),

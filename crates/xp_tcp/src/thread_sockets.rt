@@ -4,15 +4,15 @@ use crate::poller::{OwnLines, TcpPoller};
 use crate::round::Round;
 use crate::sockets::ListenFault;
 use crate::thread_links::ThreadLinks;
-use crate::tokens::{MOST_SOCKETS, WAKER};
-use mio::{Events, Poll, Waker};
+use crate::thread_waits::ThreadWaits;
+use crate::tokens::MOST_SOCKETS;
+use mio::{Events, Poll};
 use std::alloc::Global;
 use std::net::Net;
 use std::sync::Arc;
 use xp_door::{LineWaker, Marks, ThreadWaker};
 
 /// What a thread that serves lines waits on.
-#[derive(Drop)]
 pub(crate) struct ThreadSockets {
     pub(crate) poll: Poll,
     /// Room for what the thread is woken by.
@@ -22,6 +22,19 @@ pub(crate) struct ThreadSockets {
     pub(crate) round: Round,
     /// How many lines it serves.
     pub(crate) count: usize,
+}
+
+impl Drop for ThreadSockets {
+    fn drop(self) {
+        let ThreadSockets {
+            poll: _,
+            events: _,
+            waker: _,
+            links: _,
+            round: _,
+            count: _,
+        } = self;
+    }
 }
 
 impl ThreadSockets {
@@ -37,12 +50,13 @@ impl ThreadSockets {
         )?;
         let round = Round::new(alloc, lines)?;
         let due = Marks::new(alloc, lines)?;
-        let poll = Poll::new(rt)?;
-        let waker = Waker::new(poll.registry(), WAKER)?;
-        let waits = poll.registry().try_clone()?;
-        let waker = Arc::new(alloc, ThreadWaker::new(waker, due)).map_err(|_| ListenFault::Memory)?;
-        let links = ThreadLinks::new(alloc, waits);
-        let links = Arc::new(alloc, links).map_err(|_| ListenFault::Memory)?;
+        let ThreadWaits {
+            poll,
+            registry,
+            waker,
+        } = ThreadWaits::open(rt)?;
+        let waker = Arc::new(alloc, ThreadWaker::new(waker, due))?;
+        let links = Arc::new(alloc, ThreadLinks::new(alloc, registry))?;
         Ok(ThreadSockets {
             poll,
             events,

@@ -1,4 +1,4 @@
-//! Parts of lines in memory, which do what a scene tells in words: links, ports, clocks and pollers.
+//! Parts of lines in memory, which do what a scene tells in words: links, ports, clocks, bells and pollers.
 //!
 //! A scene has a line of words for serving (`serve ..`) and one for each line of the exchange that gets a link (`a1 ..`). In the
 //! words of a line `>NAME` is a packet that its link gives once it took all that is wanted before it, `<NAME` a packet that it is

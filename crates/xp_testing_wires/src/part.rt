@@ -1,4 +1,4 @@
-//! Parts of a line: its link and the port that it comes from, its clock; and what its thread does between the turns.
+//! Parts of a line: its link and the port that it comes from, its clock and its bell; and what its thread does between the turns.
 
 ghost use Rattle.std.specs.Prelude.{◌≤◌, length};
 ghost use Rattle.xp_links.specs.Counts.{pulled_count};
@@ -8,7 +8,7 @@ use std::alloc::AllocError;
 use std::sync::Arc;
 use std::sync::atomic::Ordering;
 use std::thread;
-use xp_links::{Arrived, Clock, Link, Patience, Poller, Port, Pulled, Pushed};
+use xp_links::{Arrived, Bell, Clock, Link, Patience, Poller, Port, Pulled, Pushed};
 use xp_subs::LineNo;
 
 /// A part of a line, which does what the line's plan tells.
@@ -113,20 +113,31 @@ impl Port for Part {
 /// It goes on by so many seconds where it is read (`read`), its line has nothing to do (`step`) and its thread pauses (`pause`).
 impl Clock for Part {
     fn now(&mut self) -> u64 {
-        let pauses = self.board.of(self.line).pauses.load(Ordering::SeqCst);
+        let line = self.board.of(self.line);
+        let pauses = line.pauses.load(Ordering::SeqCst);
         let paused = pauses.saturating_mul(self.board.pause);
+        let idles = line.idles.load(Ordering::SeqCst);
+        let idled = idles.saturating_mul(self.board.step);
         let now = self.count;
         self.count = now.saturating_add(self.board.read);
-        now.saturating_add(paused)
+        now.saturating_add(paused).saturating_add(idled)
+    }
+}
+
+/// The line is due in each round. It counts how often it had nothing to do, and how often others rang for it.
+impl Bell for Part {
+    fn is_due(&self) -> bool {
+        true
     }
 
-    fn idle(&mut self) {
-        self.count = self.count.saturating_add(self.board.step);
+    fn begin_turn(&self) {}
+
+    fn idle(&self) {
         let line = self.board.of(self.line);
         line.idles.fetch_add(1, Ordering::SeqCst);
     }
 
-    fn wake(&mut self, line: LineNo) {
+    fn ring(&self, line: LineNo) {
         self.board.of(line).wakes.fetch_add(1, Ordering::SeqCst);
     }
 }

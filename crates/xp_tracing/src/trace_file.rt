@@ -1,7 +1,8 @@
 //! The capture file that a trace goes to.
 
 use std::fs::{File, Files, TryLockError};
-use std::io::{ErrorKind, Read, Seek, SeekFrom, Write};
+use std::io::{ErrorKind, Seek, SeekFrom, Write};
+use std::os::unix::fs::FileExt;
 use std::{fs, io};
 use thiserror::Error;
 
@@ -43,27 +44,14 @@ impl TraceFile {
     ///
     /// Why it was not opened.
     pub fn open<R: Files<File = File>>(rt: &R, path: &str) -> Result<TraceFile, TraceFileFault> {
-        if is_special(rt, path) {
-            let file = File::options()
-                .write(true)
-                .open(rt, path)
-                .map_err(TraceFileFault::Create)?;
-            return Ok(TraceFile {
-                file,
-                is_old: false,
-            });
-        }
-        let mut file = File::options()
-            .read(true)
+        let is_special = is_special(rt, path);
+        let file = File::options()
+            .read(!is_special)
             .write(true)
-            .create(true)
+            .create(!is_special)
             .open(rt, path)
             .map_err(TraceFileFault::Create)?;
-        lock(&file)?;
-        if !may_be_replaced(&mut file).map_err(TraceFileFault::Read)? {
-            return Err(TraceFileFault::OtherContent);
-        }
-        let is_old = file.metadata().map_err(TraceFileFault::Read)?.len() > 0;
+        let is_old = !is_special && holds_a_capture(&file)?;
         Ok(TraceFile { file, is_old })
     }
 
@@ -96,6 +84,16 @@ fn is_special<R: Files<File = File>>(rt: &R, path: &str) -> bool {
     }
 }
 
+/// Locks a file that has to be empty or a capture file. Whether it is a capture file.
+fn holds_a_capture(file: &File) -> Result<bool, TraceFileFault> {
+    lock(file)?;
+    match begin_of(file).map_err(TraceFileFault::Read)? {
+        Begin::Nothing => Ok(false),
+        Begin::Capture => Ok(true),
+        Begin::Other => Err(TraceFileFault::OtherContent),
+    }
+}
+
 /// Locks the file, for as long as it is open.
 fn lock(file: &File) -> Result<(), TraceFileFault> {
     match file.try_lock() {
@@ -105,15 +103,26 @@ fn lock(file: &File) -> Result<(), TraceFileFault> {
     }
 }
 
-/// Whether the file is empty, or begins as a capture file does.
-fn may_be_replaced(file: &mut File) -> io::Result<bool> {
+/// How a file begins.
+#[derive(Clone, Copy)]
+enum Begin {
+    /// It is empty.
+    Nothing,
+    /// As a capture file does.
+    Capture,
+    Other,
+}
+
+/// How the file begins.
+fn begin_of(file: &File) -> io::Result<Begin> {
     if file.metadata()?.len() == 0 {
-        return Ok(true);
+        return Ok(Begin::Nothing);
     }
     let mut mark = [0; 4];
-    match file.read_exact(&mut mark) {
-        Ok(()) => Ok(MARKS.contains(&mark)),
-        Err(error) if error.kind() == ErrorKind::UnexpectedEof => Ok(false),
+    match file.read_exact_at(&mut mark, 0) {
+        Ok(()) if MARKS.contains(&mark) => Ok(Begin::Capture),
+        Ok(()) => Ok(Begin::Other),
+        Err(error) if error.kind() == ErrorKind::UnexpectedEof => Ok(Begin::Other),
         Err(error) => Err(error),
     }
 }

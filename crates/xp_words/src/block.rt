@@ -5,7 +5,7 @@ ghost use Rattle.xp_words.specs.Packets.{address_text, bit_text, user_text};
 use crate::field::FieldWords;
 use crate::octets::BothTexts;
 use std::alloc::Allocator;
-use std::fmt;
+use std::fmt::{self, Display};
 use xp_packets::{Block, Digits};
 
 /// A block, such as ` from 2080010 to 2080020 D, window 3/3, user data 01000000 "...."`.
@@ -16,7 +16,7 @@ pub(crate) struct BlockWords<'a, A: Allocator> {
     pub(crate) block: &'a Block<A>,
 }
 
-impl<'a, A: Allocator> fmt::Display for BlockWords<'a, A> {
+impl<'a, A: Allocator> Display for BlockWords<'a, A> {
     ghost use Rattle.std.specs.Prelude.{Some};
     ghost use Rattle.xp_words.specs.Packets.{block_text};
 
@@ -47,7 +47,7 @@ pub(crate) struct OptionalBlockWords<'a, A: Allocator> {
     pub(crate) block: &'a Option<Block<A>>,
 }
 
-impl<'a, A: Allocator> fmt::Display for OptionalBlockWords<'a, A> {
+impl<'a, A: Allocator> Display for OptionalBlockWords<'a, A> {
     ghost use Rattle.std.specs.Prelude.{Some};
     ghost use Rattle.xp_words.specs.Packets.{optional_block_text};
 
@@ -56,19 +56,19 @@ impl<'a, A: Allocator> fmt::Display for OptionalBlockWords<'a, A> {
     fn fmt<W: fmt::Write>(&self, f: &mut fmt::Formatter<W>) -> fmt::Result {
         match self.block {
             None => f.write_str(if self.d { " D" } else { "" }),
-            Some(block) => write!(f, "{}", BlockWords { d: self.d, block }),
+            Some(block) => BlockWords { d: self.d, block }.fmt(f),
         }
     }
 }
 
 /// An address behind a preposition, if it has digits.
 #[derive(Drop)]
-struct AddressWords<'a> {
-    preposition: &'static str,
-    digits: &'a Digits,
+pub(crate) struct AddressWords<'a> {
+    pub(crate) preposition: &'static str,
+    pub(crate) digits: &'a Digits,
 }
 
-impl fmt::Display for AddressWords<'_> {
+impl Display for AddressWords<'_> {
     ghost use Rattle.std.specs.Prelude.{Some};
 
     ghost output = { λ address. Some (address_text address.preposition.now address.digits.now) };
@@ -85,7 +85,7 @@ impl fmt::Display for AddressWords<'_> {
 #[derive(Clone, Copy)]
 struct UserWords<'a>(&'a [u8]);
 
-impl fmt::Display for UserWords<'_> {
+impl Display for UserWords<'_> {
     ghost use Rattle.std.specs.Prelude.{Some};
 
     ghost output = { λ user. Some (user_text user.0.now) };

@@ -6,11 +6,11 @@ ghost use Rattle.xp_words.specs.Names.{cause_name, clearing_causes, diagnostics,
 
 use crate::names::{clearing_cause_name, diagnostic_name, resetting_cause_name};
 use crate::octets::HexOctet;
-use std::fmt;
+use std::fmt::{self, Display};
 
 /// A clearing cause (X.25 clause 5.2.4). Its text is the code in hexadecimal and the name, such as `09 out of order`, or the
 /// code alone where it has no name.
-#[derive(Clone, Copy, PartialEq, Eq)]
+#[derive(Clone, Copy)]
 pub struct ClearingCause(pub u8);
 
 impl ClearingCause {
@@ -22,7 +22,7 @@ impl ClearingCause {
     }
 }
 
-impl fmt::Display for ClearingCause {
+impl Display for ClearingCause {
     ghost use Rattle.std.specs.Prelude.{Some};
 
     ghost output = { λ cause. Some (cause_text clearing_causes cause.0) };
@@ -31,13 +31,13 @@ impl fmt::Display for ClearingCause {
         let code = HexOctet(self.0);
         match self.name() {
             Some(name) => write!(f, "{code} {name}"),
-            None => write!(f, "{code}"),
+            None => code.fmt(f),
         }
     }
 }
 
 /// A resetting cause (X.25 clause 5.4.3). Its text is like that of a clearing cause.
-#[derive(Clone, Copy, PartialEq, Eq)]
+#[derive(Clone, Copy)]
 pub struct ResettingCause(pub u8);
 
 impl ResettingCause {
@@ -49,7 +49,7 @@ impl ResettingCause {
     }
 }
 
-impl fmt::Display for ResettingCause {
+impl Display for ResettingCause {
     ghost use Rattle.std.specs.Prelude.{Some};
 
     ghost output = { λ cause. Some (cause_text resetting_causes cause.0) };
@@ -58,14 +58,14 @@ impl fmt::Display for ResettingCause {
         let code = HexOctet(self.0);
         match self.name() {
             Some(name) => write!(f, "{code} {name}"),
-            None => write!(f, "{code}"),
+            None => code.fmt(f),
         }
     }
 }
 
 /// A diagnostic (X.25 Annex E). Its text is the code in decimal and the name, such as `39 packet too long`, or the code
 /// alone where it has no name.
-#[derive(Clone, Copy, PartialEq, Eq)]
+#[derive(Clone, Copy)]
 pub struct Diagnostic(pub u8);
 
 impl Diagnostic {
@@ -77,7 +77,7 @@ impl Diagnostic {
     }
 }
 
-impl fmt::Display for Diagnostic {
+impl Display for Diagnostic {
     ghost use Rattle.std.specs.Prelude.{Some};
 
     ghost output = { λ diagnostic. Some (diagnostic_text diagnostic.0) };
@@ -95,7 +95,7 @@ impl fmt::Display for Diagnostic {
 #[derive(Clone, Copy)]
 pub(crate) struct OptionalDiagnostic(pub(crate) Option<u8>);
 
-impl fmt::Display for OptionalDiagnostic {
+impl Display for OptionalDiagnostic {
     ghost use Rattle.std.specs.Prelude.{Some};
     ghost use Rattle.xp_words.specs.Packets.{optional_diagnostic_text};
 

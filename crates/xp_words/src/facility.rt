@@ -1,11 +1,11 @@
 //! Facilities in words (X.25 clause 7.2).
 
 ghost use Rattle.std.specs.Prelude.{◌≡◌, ◌<◌, ◌≤◌, ◌^◌, None, Some, MatchOption, IfSome, length};
-ghost use Rattle.xp_words.specs.Facilities.{half_octets_text, cut, fast_select_text, first_facility, named_text, one_octet_text, parameters_text, reason_text, request_text, reverse_charging_text, redirection_text, size_text, two_octets_text, value_text};
+ghost use Rattle.xp_words.specs.Facilities.{half_octets_text, cut, fast_select_text, first_facility, named_text, parameters_text, reason_text, request_text, reverse_charging_text, redirection_text, size_text, value_text};
 
 use crate::names::{facility_name, reason_name};
 use crate::octets::{HexOctet, HexOctets, hex_digit};
-use std::fmt;
+use std::fmt::{self, Display};
 
 /// The code of a marker. The facilities behind it belong to a network, or are between DTEs.
 pub(crate) const MARKER: u8 = 0x00;
@@ -29,12 +29,12 @@ impl<'a> Facility<'a> {
             (λ front. first_facility octets.now ≡ Some (record { code = front.0.code; parameters = front.0.parameters.now }, front.1.now)) }
         ensures shorter { IfSome result (λ front. length front.1.now < length octets.now) }
     {
-        match octets {
-            [MARKER, ..] | [] | [_] => None,
-            [code, behind @ ..] if *code < FIRST_COUNTED => {
-                Facility::cut(*code, usize::from(*code) / 64 + 1, behind)
-            }
-            [code, count, behind @ ..] => Facility::cut(*code, usize::from(*count), behind),
+        let (code, behind) = octets.split_first()?;
+        let (count, counted) = behind.split_first()?;
+        match *code {
+            MARKER => None,
+            code if code < FIRST_COUNTED => Facility::cut(code, usize::from(code) / 64 + 1, behind),
+            code => Facility::cut(code, usize::from(*count), counted),
         }
     }
 
@@ -52,74 +52,41 @@ impl<'a> Facility<'a> {
     }
 }
 
-impl fmt::Display for Facility<'_> {
+impl Display for Facility<'_> {
     ghost use Rattle.std.specs.Prelude.{Some};
 
     ghost output = { λ facility. Some (parameters_text facility.code facility.parameters.now) };
 
     fn fmt<W: fmt::Write>(&self, f: &mut fmt::Formatter<W>) -> fmt::Result {
         let code = self.code;
-        let parameters = self.parameters;
-        match parameters {
-            [octet] => write!(
-                f,
-                "{}",
-                OneOctet {
-                    code,
-                    octet: *octet
-                }
-            ),
-            [called, calling] => write!(
-                f,
-                "{}",
-                TwoOctets {
-                    code,
-                    called: *called,
-                    calling: *calling
-                }
-            ),
-            [reason, count, digits @ ..] if code == 0xc3 => {
-                write!(
+        let named = Named {
+            code,
+            parameters: self.parameters,
+        };
+        match self.parameters {
+            [octet] => match code {
+                0x01 => write!(f, "{}{}", reverse_charging(*octet), fast_select(*octet)),
+                0x04 => write!(f, "charging information {}", request(*octet)),
+                0x08 => write!(f, "called line address modified ({})", ReasonWords(*octet)),
+                _ => named.fmt(f),
+            },
+            [called, calling] => match code {
+                0x42 => write!(
                     f,
-                    "{}",
-                    Redirection {
-                        reason: *reason,
-                        count: *count,
-                        digits
-                    }
-                )
+                    "packet size {}/{}",
+                    PacketSize(*called),
+                    PacketSize(*calling)
+                ),
+                0x43 => write!(f, "window {called}/{calling}"),
+                _ => named.fmt(f),
+            },
+            [reason, count, digits @ ..] if code == 0xc3 => Redirection {
+                reason: *reason,
+                count: *count,
+                digits,
             }
-            _ => write!(f, "{}", Named { code, parameters }),
-        }
-    }
-}
-
-/// A facility of one octet of parameters.
-#[derive(Clone, Copy)]
-struct OneOctet {
-    code: u8,
-    octet: u8,
-}
-
-impl fmt::Display for OneOctet {
-    ghost use Rattle.std.specs.Prelude.{Some};
-
-    ghost output = { λ facility. Some (one_octet_text facility.code facility.octet) };
-
-    fn fmt<W: fmt::Write>(&self, f: &mut fmt::Formatter<W>) -> fmt::Result {
-        let octet = self.octet;
-        match self.code {
-            0x01 => write!(f, "{}{}", reverse_charging(octet), fast_select(octet)),
-            0x04 => write!(f, "charging information {}", request(octet)),
-            0x08 => write!(f, "called line address modified ({})", ReasonWords(octet)),
-            code => write!(
-                f,
-                "{}",
-                Named {
-                    code,
-                    parameters: &[octet]
-                }
-            ),
+            .fmt(f),
+            _ => named.fmt(f),
         }
     }
 }
@@ -158,49 +125,13 @@ fn request(octet: u8) -> &'static str
 #[derive(Clone, Copy)]
 struct ReasonWords(u8);
 
-impl fmt::Display for ReasonWords {
+impl Display for ReasonWords {
     ghost output = { λ reason. Some (reason_text reason.0) };
 
     fn fmt<W: fmt::Write>(&self, f: &mut fmt::Formatter<W>) -> fmt::Result {
         match reason_name(self.0) {
             Some(name) => f.write_str(name),
-            None => write!(f, "{}", HexOctet(self.0)),
-        }
-    }
-}
-
-/// A facility of two octets of parameters, one for packets from the called DTE and one for those from the calling DTE.
-#[derive(Clone, Copy)]
-struct TwoOctets {
-    code: u8,
-    called: u8,
-    calling: u8,
-}
-
-impl fmt::Display for TwoOctets {
-    ghost use Rattle.std.specs.Prelude.{Some};
-
-    ghost output = { λ facility. Some (two_octets_text facility.code facility.called facility.calling) };
-
-    fn fmt<W: fmt::Write>(&self, f: &mut fmt::Formatter<W>) -> fmt::Result {
-        let called = self.called;
-        let calling = self.calling;
-        match self.code {
-            0x42 => write!(
-                f,
-                "packet size {}/{}",
-                PacketSize(called),
-                PacketSize(calling)
-            ),
-            0x43 => write!(f, "window {called}/{calling}"),
-            code => write!(
-                f,
-                "{}",
-                Named {
-                    code,
-                    parameters: &[called, calling]
-                }
-            ),
+            None => HexOctet(self.0).fmt(f),
         }
     }
 }
@@ -209,7 +140,7 @@ impl fmt::Display for TwoOctets {
 #[derive(Clone, Copy)]
 struct PacketSize(u8);
 
-impl fmt::Display for PacketSize {
+impl Display for PacketSize {
     ghost output = { λ size. Some (size_text size.0) };
 
     fn fmt<W: fmt::Write>(&self, f: &mut fmt::Formatter<W>) -> fmt::Result {
@@ -218,7 +149,7 @@ impl fmt::Display for PacketSize {
                 let octets = 2u16.pow(u32::from(self.0));
                 write!(f, "{octets}")
             }
-            power => write!(f, "{}", HexOctet(power)),
+            power => HexOctet(power).fmt(f),
         }
     }
 }
@@ -231,7 +162,7 @@ struct Redirection<'a> {
     digits: &'a [u8],
 }
 
-impl fmt::Display for Redirection<'_> {
+impl Display for Redirection<'_> {
     ghost use Rattle.std.specs.Prelude.{Some};
 
     ghost output = { λ facility. Some (redirection_text facility.reason facility.count facility.digits.now) };
@@ -256,7 +187,7 @@ struct Address<'a> {
     octets: &'a [u8],
 }
 
-impl fmt::Display for Address<'_> {
+impl Display for Address<'_> {
     ghost output = { λ address. Some (half_octets_text address.count address.octets.now) };
 
     fn fmt<W: fmt::Write>(&self, f: &mut fmt::Formatter<W>) -> fmt::Result {
@@ -265,7 +196,7 @@ impl fmt::Display for Address<'_> {
             let last = hex_digit(self.octets[whole] / 16);
             write!(f, "{}{last}", HexOctets(&self.octets[..whole]))
         } else {
-            write!(f, "{}", HexOctets(self.octets))
+            HexOctets(self.octets).fmt(f)
         }
     }
 }
@@ -277,7 +208,7 @@ struct Named<'a> {
     parameters: &'a [u8],
 }
 
-impl fmt::Display for Named<'_> {
+impl Display for Named<'_> {
     ghost use Rattle.std.specs.Prelude.{Some};
 
     ghost output = { λ facility. Some (named_text facility.code facility.parameters.now) };
@@ -295,7 +226,7 @@ impl fmt::Display for Named<'_> {
 #[derive(Clone, Copy)]
 pub(crate) struct ValueWords<'a>(pub(crate) &'a [u8]);
 
-impl fmt::Display for ValueWords<'_> {
+impl Display for ValueWords<'_> {
     ghost output = { λ value. Some (value_text value.0.now) };
 
     fn fmt<W: fmt::Write>(&self, f: &mut fmt::Formatter<W>) -> fmt::Result {

@@ -5,14 +5,14 @@ ghost use Rattle.xp_words.specs.Facilities.{field_text, rest_text};
 
 use crate::facility::{Facility, MARKER, ValueWords};
 use crate::octets::{HexOctet, HexOctets};
-use std::fmt;
+use std::fmt::{self, Display};
 
 /// A facility field in words, with a comma and a space before each facility, such as `, reverse charging, window 3/3`.
 /// What stands behind the first marker, or is cut off, is told in hexadecimal.
 #[derive(Clone, Copy)]
 pub(crate) struct FieldWords<'a>(pub(crate) &'a [u8]);
 
-impl fmt::Display for FieldWords<'_> {
+impl Display for FieldWords<'_> {
     ghost output = { λ field. Some (field_text field.0.now) };
 
     fn fmt<W: fmt::Write>(&self, f: &mut fmt::Formatter<W>) -> fmt::Result {
@@ -21,7 +21,7 @@ impl fmt::Display for FieldWords<'_> {
             write!(f, ", {facility}")?;
             rest = behind;
         }
-        write!(f, "{}", Rest(rest))
+        Rest(rest).fmt(f)
     }
 }
 
@@ -29,7 +29,7 @@ impl fmt::Display for FieldWords<'_> {
 #[derive(Clone, Copy)]
 struct Rest<'a>(&'a [u8]);
 
-impl fmt::Display for Rest<'_> {
+impl Display for Rest<'_> {
     ghost output = { λ rest. Some (rest_text rest.0.now) };
 
     fn fmt<W: fmt::Write>(&self, f: &mut fmt::Formatter<W>) -> fmt::Result {

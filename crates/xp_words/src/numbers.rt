@@ -1,8 +1,8 @@
 //! The numbers and the bits of a data packet in words.
 
-ghost use Rattle.xp_words.specs.Packets.{bit_text, numbers_text};
+ghost use Rattle.xp_words.specs.Packets.{numbers_text};
 
-use std::fmt;
+use std::fmt::{self, Display};
 
 /// P(S), P(R), and the bits that are set, such as ` P(S)=2 P(R)=3 M`.
 #[derive(Clone, Copy)]
@@ -14,7 +14,7 @@ pub(crate) struct NumberWords {
     pub(crate) pr: u8,
 }
 
-impl fmt::Display for NumberWords {
+impl Display for NumberWords {
     ghost use Rattle.std.specs.Prelude.{Some};
 
     ghost output = { λ numbers. Some (numbers_text numbers.q numbers.d numbers.more numbers.ps numbers.pr) };
@@ -22,32 +22,9 @@ impl fmt::Display for NumberWords {
     fn fmt<W: fmt::Write>(&self, f: &mut fmt::Formatter<W>) -> fmt::Result {
         let ps = self.ps;
         let pr = self.pr;
-        let bits = Bits {
-            q: self.q,
-            d: self.d,
-            more: self.more,
-        };
-        write!(f, " P(S)={ps} P(R)={pr}{bits}")
-    }
-}
-
-/// The bits that are set.
-#[derive(Clone, Copy)]
-struct Bits {
-    q: bool,
-    d: bool,
-    more: bool,
-}
-
-impl fmt::Display for Bits {
-    ghost use Rattle.std.specs.Prelude.{◌++◌, codes, Some};
-
-    ghost output = { λ bits. Some (bit_text (codes " Q") bits.q ++ bit_text (codes " D") bits.d ++ bit_text (codes " M") bits.more) };
-
-    fn fmt<W: fmt::Write>(&self, f: &mut fmt::Formatter<W>) -> fmt::Result {
         let q = if self.q { " Q" } else { "" };
         let d = if self.d { " D" } else { "" };
         let more = if self.more { " M" } else { "" };
-        write!(f, "{q}{d}{more}")
+        write!(f, " P(S)={ps} P(R)={pr}{q}{d}{more}")
     }
 }

@@ -4,7 +4,7 @@ ghost use Rattle.std.specs.Prelude.{◌≡◌, ◌<◌, false};
 ghost use Rattle.std.specs.Fmt.{digit_glyph};
 ghost use Rattle.xp_words.specs.Octets.{both_texts, hex_pair, hex_text, octets_text, shown};
 
-use std::fmt;
+use std::fmt::{self, Display};
 
 /// User data in words: how many octets, each in hexadecimal, and as text, such as `5 octets 68656c6c6f "hello"`. In the text a
 /// full stop stands for an octet that is no printable character of ASCII.
@@ -13,20 +13,17 @@ pub struct OctetWords<'a> {
     pub octets: &'a [u8],
 }
 
-impl fmt::Display for OctetWords<'_> {
+impl Display for OctetWords<'_> {
     ghost use Rattle.std.specs.Prelude.{Some};
 
     ghost output = { λ words. Some (octets_text words.octets.now) };
 
     fn fmt<W: fmt::Write>(&self, f: &mut fmt::Formatter<W>) -> fmt::Result {
-        let octets = self.octets;
-        match octets {
-            [] => f.write_str("no octets"),
-            [_] => write!(f, "1 octet {}", BothTexts(octets)),
-            [_, _, ..] => {
-                let count = octets.len();
-                write!(f, "{count} octets {}", BothTexts(octets))
-            }
+        let texts = BothTexts(self.octets);
+        match self.octets.len() {
+            0 => f.write_str("no octets"),
+            1 => write!(f, "1 octet {texts}"),
+            count => write!(f, "{count} octets {texts}"),
         }
     }
 }
@@ -35,7 +32,7 @@ impl fmt::Display for OctetWords<'_> {
 #[derive(Clone, Copy)]
 pub(crate) struct BothTexts<'a>(pub(crate) &'a [u8]);
 
-impl fmt::Display for BothTexts<'_> {
+impl Display for BothTexts<'_> {
     ghost use Rattle.std.specs.Prelude.{Some};
 
     ghost output = { λ words. Some (both_texts words.0.now) };
@@ -49,7 +46,7 @@ impl fmt::Display for BothTexts<'_> {
 #[derive(Clone, Copy)]
 pub(crate) struct HexOctet(pub(crate) u8);
 
-impl fmt::Display for HexOctet {
+impl Display for HexOctet {
     ghost use Rattle.std.specs.Prelude.{Some};
 
     ghost output = { λ octet. Some (hex_pair octet.0) };
@@ -75,14 +72,14 @@ pub(crate) fn hex_digit(half: u8) -> char
 #[derive(Clone, Copy)]
 pub(crate) struct HexOctets<'a>(pub(crate) &'a [u8]);
 
-impl fmt::Display for HexOctets<'_> {
+impl Display for HexOctets<'_> {
     ghost use Rattle.std.specs.Prelude.{Some};
 
     ghost output = { λ octets. Some (hex_text octets.0.now) };
 
     fn fmt<W: fmt::Write>(&self, f: &mut fmt::Formatter<W>) -> fmt::Result {
         for octet in self.0 {
-            write!(f, "{}", HexOctet(*octet))?;
+            HexOctet(*octet).fmt(f)?;
         }
         Ok(())
     }
@@ -92,14 +89,14 @@ impl fmt::Display for HexOctets<'_> {
 #[derive(Clone, Copy)]
 struct OctetText<'a>(&'a [u8]);
 
-impl fmt::Display for OctetText<'_> {
+impl Display for OctetText<'_> {
     ghost use Rattle.std.specs.Prelude.{Some, map};
 
     ghost output = { λ octets. Some (map shown octets.0.now) };
 
     fn fmt<W: fmt::Write>(&self, f: &mut fmt::Formatter<W>) -> fmt::Result {
         for octet in self.0 {
-            write!(f, "{}", shown(*octet))?;
+            f.write_char(shown(*octet))?;
         }
         Ok(())
     }

@@ -10,7 +10,7 @@ use crate::direction::{Direction, type_name};
 use crate::numbers::NumberWords;
 use crate::octets::OctetWords;
 use std::alloc::{AllocError, Allocator, Global};
-use std::fmt;
+use std::fmt::{self, Display};
 use xp_packets::Packet;
 
 /// A packet as a line of words, such as `data P(S)=2 P(R)=3 M, 5 octets 68656c6c6f "hello"`.
@@ -33,7 +33,7 @@ impl<'a, A: Allocator> PacketWords<'a, A> {
     }
 }
 
-impl<'a, A: Allocator> fmt::Display for PacketWords<'a, A> {
+impl<'a, A: Allocator> Display for PacketWords<'a, A> {
     ghost use Rattle.std.specs.Prelude.{Some};
     ghost use Rattle.xp_words.specs.Packets.{packet_text};
 
@@ -50,7 +50,7 @@ impl<'a, A: Allocator> fmt::Display for PacketWords<'a, A> {
 #[derive(Drop)]
 struct BodyWords<'a, A: Allocator>(&'a Packet<A>);
 
-impl<'a, A: Allocator> fmt::Display for BodyWords<'a, A> {
+impl<'a, A: Allocator> Display for BodyWords<'a, A> {
     ghost use Rattle.std.specs.Prelude.{Some};
     ghost use Rattle.xp_words.specs.Packets.{body_text};
 
@@ -58,10 +58,8 @@ impl<'a, A: Allocator> fmt::Display for BodyWords<'a, A> {
 
     fn fmt<W: fmt::Write>(&self, f: &mut fmt::Formatter<W>) -> fmt::Result {
         match self.0 {
-            Packet::Call { d, block } => write!(f, "{}", BlockWords { d: *d, block }),
-            Packet::Accepted { d, block } => {
-                write!(f, "{}", OptionalBlockWords { d: *d, block })
-            }
+            Packet::Call { d, block } => BlockWords { d: *d, block }.fmt(f),
+            Packet::Accepted { d, block } => OptionalBlockWords { d: *d, block }.fmt(f),
             Packet::Clear {
                 cause,
                 diagnostic,
@@ -72,9 +70,7 @@ impl<'a, A: Allocator> fmt::Display for BodyWords<'a, A> {
                 let block = OptionalBlockWords { d: false, block };
                 write!(f, ", cause {cause}{diagnostic}{block}")
             }
-            Packet::ClearConfirm { block } => {
-                write!(f, "{}", OptionalBlockWords { d: false, block })
-            }
+            Packet::ClearConfirm { block } => OptionalBlockWords { d: false, block }.fmt(f),
             Packet::DataPacket {
                 q,
                 d,

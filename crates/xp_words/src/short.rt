@@ -4,12 +4,13 @@ ghost use Rattle.std.specs.Prelude.{◌≡◌, IfOk};
 ghost use Rattle.std.specs.String.{string_bytes};
 ghost use Rattle.xp_words.specs.Packets.{short_packet_text};
 
+use crate::block::AddressWords;
 use crate::direction::{Direction, type_name};
 use crate::numbers::NumberWords;
 use crate::octets::HexOctet;
 use std::alloc::{AllocError, Allocator, Global};
-use std::fmt;
-use xp_packets::{Digits, Packet};
+use std::fmt::{self, Display};
+use xp_packets::Packet;
 
 /// A packet in few words, such as `call request 2080020`, `data P(S)=2 P(R)=3 M` or `clear indication 09/0`: a cause in
 /// hexadecimal with a diagnostic in decimal.
@@ -32,7 +33,7 @@ impl<'a, A: Allocator> ShortPacketWords<'a, A> {
     }
 }
 
-impl<'a, A: Allocator> fmt::Display for ShortPacketWords<'a, A> {
+impl<'a, A: Allocator> Display for ShortPacketWords<'a, A> {
     ghost use Rattle.std.specs.Prelude.{Some};
     ghost use Rattle.xp_words.specs.Packets.{short_packet_text};
 
@@ -49,7 +50,7 @@ impl<'a, A: Allocator> fmt::Display for ShortPacketWords<'a, A> {
 #[derive(Drop)]
 struct ShortBodyWords<'a, A: Allocator>(&'a Packet<A>);
 
-impl<'a, A: Allocator> fmt::Display for ShortBodyWords<'a, A> {
+impl<'a, A: Allocator> Display for ShortBodyWords<'a, A> {
     ghost use Rattle.std.specs.Prelude.{Some};
     ghost use Rattle.xp_words.specs.Packets.{short_body_text};
 
@@ -57,7 +58,11 @@ impl<'a, A: Allocator> fmt::Display for ShortBodyWords<'a, A> {
 
     fn fmt<W: fmt::Write>(&self, f: &mut fmt::Formatter<W>) -> fmt::Result {
         match self.0 {
-            Packet::Call { block, .. } => write!(f, "{}", DialledWords(&block.called)),
+            Packet::Call { block, .. } => AddressWords {
+                preposition: " ",
+                digits: &block.called,
+            }
+            .fmt(f),
             Packet::Clear {
                 cause,
                 diagnostic,
@@ -77,16 +82,14 @@ impl<'a, A: Allocator> fmt::Display for ShortBodyWords<'a, A> {
                 ps,
                 pr,
                 ..
-            } => {
-                let numbers = NumberWords {
-                    q: *q,
-                    d: *d,
-                    more: *more,
-                    ps: *ps,
-                    pr: *pr,
-                };
-                write!(f, "{numbers}")
+            } => NumberWords {
+                q: *q,
+                d: *d,
+                more: *more,
+                ps: *ps,
+                pr: *pr,
             }
+            .fmt(f),
             Packet::Ready { pr } | Packet::NotReady { pr } | Packet::Reject { pr } => {
                 write!(f, " P(R)={pr}")
             }
@@ -96,23 +99,5 @@ impl<'a, A: Allocator> fmt::Display for ShortBodyWords<'a, A> {
             | Packet::InterruptConfirm
             | Packet::ResetConfirm => Ok(()),
         }
-    }
-}
-
-/// The digits of an address behind a space, if there are any.
-#[derive(Drop)]
-struct DialledWords<'a>(&'a Digits);
-
-impl fmt::Display for DialledWords<'_> {
-    ghost use Rattle.std.specs.Prelude.{codes, Some};
-    ghost use Rattle.xp_words.specs.Packets.{address_text};
-
-    ghost output = { λ digits. Some (address_text (codes " ") digits.0.now) };
-
-    fn fmt<W: fmt::Write>(&self, f: &mut fmt::Formatter<W>) -> fmt::Result {
-        if self.0.is_empty() {
-            return Ok(());
-        }
-        write!(f, " {}", self.0)
     }
 }

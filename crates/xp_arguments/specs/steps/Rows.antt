@@ -1,10 +1,11 @@
 -- The rows of arguments, as `clap` is given them.
-use Rattle.std.specs.Prelude.{List, [], ◌∷◌, codes}
-use Rattle.clap.specs.Words.{App, Rule, new_app, with_rule, with_subcommand}
-use Rattle.xp_arguments.specs.Commands.{asked, check, command_of, explain, flag, positional, repeated, replay, serve, valued}
+use Rattle.std.specs.Prelude.{ℕ, List, [], ◌∷◌, Option, codes}
+use Rattle.clap.specs.Words.{App, Row, Rule, new_app, with_rule, with_subcommand}
+use Rattle.xp_arguments.specs.Commands.{AsksFor, asked, check, command_of, explain, flag, positional, repeated, replay, serve, valued}
 use Rattle.xp_arguments.specs.declared.rows.ArgumentForm.TheVariants.{Placed, Valued, Repeated, Flag}
 use Rattle.xp_arguments.specs.declared.rows.ArgumentForm.{ArgumentForm}
 use Rattle.xp_arguments.specs.declared.rows.ArgumentRow.{ArgumentRow}
+use Rattle.xp_arguments.specs.declared.subcommand.Subcommand.{Subcommand}
 use Rattle.xp_arguments.specs.declared.subcommand.Verb.{Verb}
 use Rattle.xp_arguments.specs.declared.subcommand.Verb.TheVariants.{Check, Replay, Explain, Serve, Status, Stop, Reload}
 use Rattle.clap.specs.Words.{Text}
@@ -42,3 +43,7 @@ bare = asked (new_app (codes "xp"))
 abbrev pub with_verbs : App → List Verb → App
 with_verbs app [] = app
 with_verbs app (verb ∷ verbs) = with_verbs (with_subcommand app (command_with verb).top) verbs
+
+-- a command, with its arguments as they were found, asks for something
+abbrev pub AskForOne : Option (Text × List Row) → Type 0
+AskForOne found = (subcommand : Subcommand) × (name : List ℕ) × AsksFor found subcommand name

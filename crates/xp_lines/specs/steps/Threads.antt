@@ -7,14 +7,14 @@ use Rattle.xp_lock.specs.Passes.{Pass}
 use Rattle.xp_links.specs.Pairs.{AreEach}
 use Rattle.xp_lines.specs.declared.threads.OfLines.{OfLines}
 
-module _ {N P L C : Type 0} where
+module _ {N P L C B : Type 0} where
   -- the lines of a thread that was started, or could not be
-  abbrev pub lines_of : Result (PromisedHandle (Vec (Pass Alloc) Alloc) (OfLines N P C L)) (Vec (Pass Alloc) Alloc) → List (Pass Alloc)
+  abbrev pub lines_of : Result (PromisedHandle (Vec (Pass Alloc) Alloc) (OfLines N P C B L)) (Vec (Pass Alloc) Alloc) → List (Pass Alloc)
   lines_of (Ok handle) = handle.promise.first.value.items
   lines_of (Err lines) = lines.items
 
   -- the lines of all these threads, in order
-  abbrev pub begun_lines : List (Result (PromisedHandle (Vec (Pass Alloc) Alloc) (OfLines N P C L)) (Vec (Pass Alloc) Alloc)) → List (Pass Alloc)
+  abbrev pub begun_lines : List (Result (PromisedHandle (Vec (Pass Alloc) Alloc) (OfLines N P C B L)) (Vec (Pass Alloc) Alloc)) → List (Pass Alloc)
   begun_lines [] = []
   begun_lines (begun ∷ more) = lines_of begun ++ begun_lines more
 

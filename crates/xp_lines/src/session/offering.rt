@@ -18,18 +18,18 @@ use crate::waiting::Waiting;
 use std::alloc::{AllocError, Allocator};
 use std::sync::Wait;
 use xp_frames::Deframer;
-use xp_links::{Clock, Link};
+use xp_links::{Bell, Clock, Link};
 use xp_packets::Modulus;
 use xp_seats::Name;
 
 impl<L: Link, A: Allocator + Copy> Session<L, A> {
     /// Offers the packets that wait, in order, at this moment. Any packet is the line's answer to an incoming call. Returns whether
     /// there were any.
-    pub(super) fn offer_waiting<N: Name, C: Clock, R: Wait>(
+    pub(super) fn offer_waiting<N: Name, C: Clock, B: Bell, R: Wait>(
         &mut self,
         rt: &R,
         shared: &Shared<'_, N, A>,
-        seat: &mut Seat<N, C, A>,
+        seat: &mut Seat<N, C, B, A>,
         now: u64,
     ) -> Result<bool, Over>
         ensures offers { (whats : List (Happening A)) × Gains seat.old.pass whats seat.new.pass × Offers (modulus_of N.subs seat.old.pass.line) self.old.frames.waiting whats (stays (over_of result)) self.new.frames.waiting × (stays (over_of result) ≡ true → self.new.unanswered_since ≡ answered (has_any whats) self.old.unanswered_since) }

@@ -16,7 +16,7 @@ use crate::shared::Shared;
 use std::alloc::Allocator;
 use std::sync::Wait;
 use xp_frames::{Deframer, FrameFault};
-use xp_links::{Clock, Link, Pulled};
+use xp_links::{Bell, Clock, Link, Pulled};
 use xp_seats::Name;
 
 /// The most octets that one pull takes.
@@ -25,11 +25,11 @@ const PIECE: usize = 4096;
 impl<L: Link, A: Allocator + Copy> Session<L, A> {
     /// Pulls once, and offers the packets that came, at this moment. Where the link is over, what came before that is offered all the
     /// same. Returns whether anything came.
-    pub(crate) fn read_in<N: Name, C: Clock, R: Wait>(
+    pub(crate) fn read_in<N: Name, C: Clock, B: Bell, R: Wait>(
         &mut self,
         rt: &R,
         shared: &Shared<'_, N, A>,
-        seat: &mut Seat<N, C, A>,
+        seat: &mut Seat<N, C, B, A>,
         now: u64,
     ) -> Result<bool, Over>
         ensures reads { (pulled : List ℕ) × Appends (L.pulled self.old.link) (L.pulled self.new.link) pulled × (whats : List (Happening A)) × Gains seat.old.pass whats seat.new.pass × Reads (modulus_of N.subs seat.old.pass.line) self.old.frames pulled whats (over_of result) self.new.frames × (stays (over_of result) ≡ true → self.new.unanswered_since ≡ answered (has_any whats) self.old.unanswered_since) }

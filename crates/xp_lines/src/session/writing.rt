@@ -18,7 +18,7 @@ use crate::shared::Shared;
 use std::alloc::{AllocError, Allocator};
 use std::sync::Wait;
 use xp_frames::write_frame;
-use xp_links::{Clock, Link};
+use xp_links::{Bell, Clock, Link};
 use xp_packets::{Modulus, Packet, encode};
 use xp_seats::Name;
 use xp_step::{Outgoing, Put};
@@ -34,11 +34,11 @@ impl<L: Link, A: Allocator + Copy> Session<L, A> {
     /// # Errors
     ///
     /// `Link` where the link is broken, or an output closed its connection. `Memory` if an allocation fails: a packet is lost.
-    pub(crate) fn write_out<N: Name, C: Clock, R: Wait>(
+    pub(crate) fn write_out<N: Name, C: Clock, B: Bell, R: Wait>(
         &mut self,
         rt: &R,
         shared: &Shared<'_, N, A>,
-        seat: &mut Seat<N, C, A>,
+        seat: &mut Seat<N, C, B, A>,
         now: u64,
     ) -> Result<bool, Over>
         ensures writes { WrittenOut (modulus_of N.subs seat.old.pass.line) now self.old.connection seat.old.pass self.old.unwritten.items (L.pushed self.old.link) self.old.unanswered_since (over_of result) seat.new.pass self.new.unwritten.items (L.pushed self.new.link) self.new.unanswered_since }
@@ -61,11 +61,11 @@ impl<L: Link, A: Allocator + Copy> Session<L, A> {
 
     /// Takes at most 64 outputs, and appends the octets of those for this connection, by this modulus, to the unwritten ones. Returns
     /// whether there may be more.
-    fn take_out<N: Name, C: Clock, R: Wait>(
+    fn take_out<N: Name, C: Clock, B: Bell, R: Wait>(
         &mut self,
         rt: &R,
         shared: &Shared<'_, N, A>,
-        seat: &mut Seat<N, C, A>,
+        seat: &mut Seat<N, C, B, A>,
         modulus: Modulus,
         now: u64,
     ) -> Result<bool, Over>

@@ -47,14 +47,13 @@ pub fn accept_call<A: Allocator>(
     requires { ContainsKey calls.old key }
     ensures { IsAccepted lines.old.items calls.old key agreement lines.new.items calls.new }
 {
-    let mut call = calls.remove(key);
+    let call = &mut calls[key];
     call.agreed = Some(agreement);
     let talking = ChannelState::Talking(CallKey {
         number: call.number,
         key,
     });
     let (caller, called) = (call.caller, call.called);
-    calls.insert_reserved(call);
     let near = channel(lines, called).moved(talking);
     let far = channel(lines, caller).moved(talking);
     set_line(lines, called, near);

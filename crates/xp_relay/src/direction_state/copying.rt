@@ -13,10 +13,10 @@ impl<A: Allocator + Copy> DirectionState<A> {
     pub(crate) fn copy(&self) -> Result<DirectionState<A>, AllocError>
         ensures { IfOk result (λ copied. copied ≡ self.now) }
     {
-        let interrupt = self.interrupt.copy()?;
         let alloc = *self.held.allocator();
         let mut held = VecDeque::with_capacity(alloc, usize::from(self.terms.window))?;
         copy_held(&self.held, &mut held)?;
+        let interrupt = self.interrupt.copy()?;
         Ok(DirectionState {
             terms: self.terms,
             pr: self.pr,

@@ -30,7 +30,7 @@ pub(crate) fn judge<A: Allocator>(
     if received.owes() {
         return Judged::Discard;
     }
-    if !(numbers.ps == sent.next_number() && sent.has_room()) {
+    if !sent.awaits(numbers.ps) {
         return Judged::Reset(INVALID_SEND_NUMBER);
     }
     if received.newly_acknowledged(numbers.pr).is_none() {

@@ -1,6 +1,6 @@
 //! Receive ready and receive not ready (X.25 clauses 4.4.1.4 and 4.4.1.5).
 
-ghost use Rattle.std.specs.Prelude.{◌≡◌, ◌+◌, ◌≤◌, []};
+ghost use Rattle.std.specs.Prelude.{◌≡◌, ◌+◌, ◌≤◌, [], IsFalse};
 ghost use Rattle.xp_relay.specs.Direction.{Direction};
 ghost use Rattle.xp_relay.specs.StoredDirection.{Represents};
 ghost use Rattle.xp_relay.specs.steps.StoredDirection.{RepresentsTurn};
@@ -37,7 +37,7 @@ fn acknowledge<A: Allocator>(
         .with_some(told)
 }
 
-/// Takes RR or RNR.
+/// Takes RR or RNR of an end that owes no reset confirmation.
 pub(crate) fn flow<A: Allocator>(
     here: End,
     ready: bool,
@@ -46,13 +46,11 @@ pub(crate) fn flow<A: Allocator>(
     received: &mut DirectionState<A>,
     room: Moves<A>,
 ) -> Moves<A>
+    requires ready { IsFalse received.old.owes }
     requires empty { room.moves ≡ [] }
     requires space { 17 ≤ room.room }
     ensures { (s r : Direction A) → Represents sent.old s → Represents received.old r → RepresentsTurn sent.new received.new result.moves (flow here ready pr s r) }
 {
-    if received.owes() {
-        return room;
-    }
     match received.newly_acknowledged(pr) {
         Some(more) => acknowledge(here, ready, more, sent, received, room),
         None => fail(here, INVALID_RECEIVE_NUMBER, sent, received, room),

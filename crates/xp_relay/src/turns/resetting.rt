@@ -4,15 +4,14 @@ ghost use Rattle.std.specs.Prelude.{◌≡◌, ◌≤◌, []};
 ghost use Rattle.xp_relay.specs.Direction.{Direction};
 ghost use Rattle.xp_relay.specs.StoredDirection.{Represents};
 ghost use Rattle.xp_relay.specs.steps.StoredDirection.{RepresentsTurn};
-ghost use Rattle.xp_relay.specs.Turns.{failing, reject, reset, reset_confirm, resetting, settling};
+ghost use Rattle.xp_relay.specs.Turns.{failing, resetting, settling};
 
 use crate::direction_state::DirectionState;
 use crate::moves::{Move, Moves};
 use crate::turns::notices::{indicating, indication, interrupts, not_ready_notice};
 use std::alloc::Allocator;
-use xp_causes::diagnostic::{INVALID_IN_D1, REJECT_NOT_SUBSCRIBED};
+use xp_causes::indicated_cause;
 use xp_causes::resetting_cause::{LOCAL_PROCEDURE_ERROR, REMOTE_PROCEDURE_ERROR};
-use xp_causes::{indicated_cause, indicated_diagnostic};
 use xp_packets::{End, Packet};
 
 /// Resets the call for a procedure error of this end.
@@ -35,7 +34,7 @@ pub(crate) fn fail<A: Allocator>(
 }
 
 /// Resets the call on the request of this end, which owes no reset confirmation.
-fn request<A: Allocator>(
+pub(crate) fn request<A: Allocator>(
     here: End,
     cause: u8,
     diagnostic: u8,
@@ -58,7 +57,7 @@ fn request<A: Allocator>(
 }
 
 /// Carries out the reset confirmation that this end owed.
-fn settle<A: Allocator>(
+pub(crate) fn settle<A: Allocator>(
     here: End,
     sent: &mut DirectionState<A>,
     received: &mut DirectionState<A>,
@@ -73,67 +72,4 @@ fn settle<A: Allocator>(
         .with_some(not_ready_notice(here, sent))
         .with_some(interrupts(here, waited));
     received.release(here, sent.received_number(), room)
-}
-
-/// Takes a reset request.
-pub(crate) fn reset<A: Allocator>(
-    here: End,
-    cause: u8,
-    diagnostic: Option<u8>,
-    sent: &mut DirectionState<A>,
-    received: &mut DirectionState<A>,
-    room: Moves<A>,
-) -> Moves<A>
-    requires empty { room.moves ≡ [] }
-    requires space { 17 ≤ room.room }
-    ensures { (s r : Direction A) → Represents sent.old s → Represents received.old r → RepresentsTurn sent.new received.new result.moves (reset here cause diagnostic s r) }
-{
-    if received.owes() {
-        settle(here, sent, received, room)
-    } else {
-        request(
-            here,
-            cause,
-            indicated_diagnostic(diagnostic),
-            sent,
-            received,
-            room,
-        )
-    }
-}
-
-/// Takes a reset confirmation.
-pub(crate) fn reset_confirm<A: Allocator>(
-    here: End,
-    sent: &mut DirectionState<A>,
-    received: &mut DirectionState<A>,
-    room: Moves<A>,
-) -> Moves<A>
-    requires empty { room.moves ≡ [] }
-    requires space { 17 ≤ room.room }
-    ensures { (s r : Direction A) → Represents sent.old s → Represents received.old r → RepresentsTurn sent.new received.new result.moves (reset_confirm here s r) }
-{
-    if received.owes() {
-        settle(here, sent, received, room)
-    } else {
-        fail(here, INVALID_IN_D1, sent, received, room)
-    }
-}
-
-/// Takes REJ, to which no line subscribes.
-pub(crate) fn reject<A: Allocator>(
-    here: End,
-    sent: &mut DirectionState<A>,
-    received: &mut DirectionState<A>,
-    room: Moves<A>,
-) -> Moves<A>
-    requires empty { room.moves ≡ [] }
-    requires space { 17 ≤ room.room }
-    ensures { (s r : Direction A) → Represents sent.old s → Represents received.old r → RepresentsTurn sent.new received.new result.moves (reject here s r) }
-{
-    if received.owes() {
-        room
-    } else {
-        fail(here, REJECT_NOT_SUBSCRIBED, sent, received, room)
-    }
 }

@@ -1,31 +1,32 @@
 //! Plans the answer to an incoming call.
 
 ghost use Rattle.std.specs.Prelude.{◌≡◌, ◌<◌, [], ◌∷◌, None, Some, IfOk, List};
+ghost use Rattle.xp_channel.specs.declared.action.Action.TheVariants.{Answer as Answers};
 ghost use Rattle.xp_step.specs.Acts.{agreement_of as agreed_by, outputs_of_answer};
 ghost use Rattle.xp_step.specs.Agreed.{AllHaveTerms};
-ghost use Rattle.xp_step.specs.steps.ReceivedPackets.{answer_of};
 ghost use Rattle.xp_step.specs.declared.entry.Entry.{Entry as Entered};
 ghost use Rattle.xp_step.specs.steps.HasTables.{HasTables};
 ghost use Rattle.xp_step.specs.EventLine.{IsEventLine, IsShort, event_line_context};
 ghost use Rattle.xp_machine.specs.StoredState.{call_of_stored, entry_of};
 ghost use Rattle.xp_machine.specs.Changes.{Connects};
 ghost use Rattle.xp_machine.specs.Coupling.{AreCoupled};
-ghost use Rattle.xp_step.specs.Plan.{IsPlan};
-ghost use Rattle.xp_step.specs.steps.Branches.{PlansAnswer};
+ghost use Rattle.xp_step.specs.Plan.{IsPlan, Plans};
 ghost use Rattle.xp_step.specs.RelayedPackets.{relay_terms};
 ghost use Rattle.xp_machine.specs.World.{call_on};
 ghost use Rattle.xp_subs.specs.Tables.{line_count};
 
 use super::Plan;
-use super::clearing::fail;
+use super::clearing::{fail, nothing};
 use super::event_line::EventLine;
+use super::received_packets::accepted_in;
 use super::send::send;
+use crate::event::What;
 use crate::outcome::Outcome;
 use crate::output::Buffer;
 use crate::records::Records;
 use crate::workspace::Workspace;
 use std::alloc::{AllocError, Allocator};
-use xp_answer::{Answer, CallAccepted, Connection, examine};
+use xp_answer::{Answer, Connection, examine};
 use xp_charge::Meter;
 use xp_machine::{Agreement, Change, LiveCall, RelayUpdate};
 use xp_relay::Terms;
@@ -36,22 +37,25 @@ use xp_subs::Subs;
 #[inline(never)]
 pub fn answer<A: Allocator + Copy>(
     found: &EventLine<'_, A>,
-    answer: &CallAccepted<'_, A>,
+    what: &What<A>,
     workspace: &mut Workspace<A>,
 ) -> Result<Plan<A>, AllocError>
     requires line { found.now.line < line_count found.now.in_force.now }
     requires terms { AllHaveTerms found.now.subs.now found.now.machine.now }
     requires coupled { AreCoupled found.now.subs.now found.now.machine.now }
     requires short { IsShort found.now.charged }
-    ensures { (before : List (Entered A)) → HasTables found.now before → IsEventLine found.now before → IfOk result (PlansAnswer (event_line_context found.now before) (answer_of answer.now)) }
+    ensures { (before : List (Entered A)) → HasTables found.now before → IsEventLine found.now before → IfOk result (Plans (event_line_context found.now before) what.now Answers) }
 {
     let alloc = workspace.alloc;
+    let Some(accepted) = accepted_in(what) else {
+        return nothing(alloc, found);
+    };
     let Some(call) = found.machine.call_on(found.line) else {
         return Ok(Plan::none(alloc));
     };
     let address = found.in_force.address_of(found.line);
     let outputs = workspace.buffer(1)?;
-    match examine(alloc, &call.setup, address, &call.dialled, answer)? {
+    match examine(alloc, &call.setup, address, &call.dialled, &accepted)? {
         Answer::Connected(connection) => {
             let agreement = agreement_of(found.moment, &connection);
             let meter = Meter::new(found.subs.segment_limit());

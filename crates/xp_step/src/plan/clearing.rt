@@ -1,23 +1,24 @@
 //! Plans what takes a line out of its call: a clear request, an error, data past the segment limit, or the loss of its
-//! service. Also plans that a line comes into service, or is free again.
+//! service. Also plans that a line comes into service, is free again, or stays as it is.
 
 ghost use Rattle.std.specs.Prelude.{◌≡◌, ◌∷◌, [], IfOk, None, option_to_list, List};
 ghost use Rattle.xp_causes.specs.declared.clearing_cause.TheConstants.{LOCAL_PROCEDURE_ERROR as LOCAL_ERROR, NETWORK_CONGESTION as CONGESTION, OUT_OF_ORDER as GONE_OUT, REMOTE_PROCEDURE_ERROR as REMOTE_ERROR};
 ghost use Rattle.xp_causes.specs.declared.diagnostic.TheConstants.{NO_ADDITIONAL_INFORMATION as NO_INFORMATION};
 ghost use Rattle.xp_step.specs.Acts.{closed, outputs_to_both, outputs_of_error, outputs_of_excess, outputs_of_fall};
+ghost use Rattle.xp_channel.specs.declared.action.Action.TheVariants.{Confirm as Clears};
 ghost use Rattle.xp_step.specs.steps.ReceivedPackets.{clear_of};
 ghost use Rattle.xp_machine.specs.Changes.{Rises, Leaves, IsCleared, IsFree, GoesOut};
 ghost use Rattle.xp_step.specs.Effects.{leaves};
 ghost use Rattle.xp_step.specs.declared.entry.Entry.{Entry as Entered};
 ghost use Rattle.xp_step.specs.EventLine.{IsEventLine, IsShort, event_line_context};
-ghost use Rattle.xp_step.specs.Plan.{IsPlan};
-ghost use Rattle.xp_step.specs.steps.Branches.{IsPlainPlan, IsToldOn, PlansClear};
+ghost use Rattle.xp_step.specs.Plan.{IsPlan, Plans};
+ghost use Rattle.xp_step.specs.steps.Branches.{IsPlainPlan, IsToldOn};
 ghost use Rattle.xp_step.specs.EventOutputs.{no_outputs};
 ghost use Rattle.xp_machine.specs.World.{call_on};
 
 use super::Plan;
 use super::event_line::{EventLine, MeteredCall};
-use super::received_packets::ClearRequest;
+use super::received_packets::{ClearRequest, clear_in};
 use super::send::{close, send};
 use crate::event::What;
 use crate::outcome::Outcome;
@@ -33,6 +34,16 @@ use xp_causes::diagnostic::NO_ADDITIONAL_INFORMATION;
 use xp_causes::{indicated_cause, indicated_diagnostic};
 use xp_machine::{Change, Machine, NoCallState};
 use xp_subs::LineNo;
+
+/// Plans that nothing happens.
+pub fn nothing<A: Allocator + Copy>(
+    alloc: A,
+    _found: &EventLine<'_, A>,
+) -> Result<Plan<A>, AllocError>
+    ensures { (before : List (Entered A)) → IfOk result (λ plan. IsPlainPlan plan (event_line_context _found.now before) no_outputs []) }
+{
+    Ok(Plan::none(alloc))
+}
 
 /// Plans that a line comes into service.
 pub fn rise<A: Allocator + Copy>(alloc: A, found: &EventLine<'_, A>) -> Result<Plan<A>, AllocError>
@@ -152,19 +163,22 @@ fn clear_both<A: Allocator + Copy>(
 #[inline(never)]
 pub fn confirm<A: Allocator + Copy>(
     found: &EventLine<'_, A>,
-    clear: &ClearRequest<'_, A>,
+    what: &What<A>,
     workspace: &mut Workspace<A>,
 ) -> Result<Plan<A>, AllocError>
     requires { IsShort found.now.charged }
-    ensures { (before : List (Entered A)) → IsEventLine found.now before → IfOk result (PlansClear (event_line_context found.now before) (clear_of clear.now)) }
+    ensures { (before : List (Entered A)) → IsEventLine found.now before → IfOk result (Plans (event_line_context found.now before) what.now Clears) }
 {
     let alloc = workspace.alloc;
+    let Some(clear) = clear_in(what) else {
+        return nothing(alloc, found);
+    };
     let outputs = workspace.buffer(2)?;
     let cause = indicated_cause(clear.cause);
     let diagnostic = indicated_diagnostic(clear.diagnostic);
     let withdrawal = found.withdraw(NoCallState::IsFree, cause, diagnostic);
     let records = Records::of(alloc, withdrawal.charged)?;
-    let far = carry_on(alloc, found, clear)?;
+    let far = carry_on(alloc, found, &clear)?;
     let own = found.confirm_own(alloc);
     let outputs = outputs.with(own).with_some(far);
     Ok(Plan::of(outputs, records).changing(withdrawal.change))

@@ -1,29 +1,27 @@
 //! Plans each event, by the table of actions.
 
-ghost use Rattle.std.specs.Prelude.{◌≡◌, ◌<◌, [], IfOk, List};
-ghost use Rattle.xp_channel.specs.declared.action.Action.TheVariants.{Answer as Answers, Collision as Collides, Confirm as Clears, NewCall as Requested};
+ghost use Rattle.std.specs.Prelude.{◌≡◌, ◌<◌, IfOk, List};
+ghost use Rattle.xp_channel.specs.declared.action.Action.TheVariants.{Collision as Collides, NewCall as Requested};
 ghost use Rattle.xp_step.specs.Agreed.{AllHaveTerms};
 ghost use Rattle.xp_machine.specs.Channel.{channel_of};
 ghost use Rattle.xp_machine.specs.Coupling.{AreCoupled};
 ghost use Rattle.xp_step.specs.declared.entry.Entry.{Entry as Entered};
 ghost use Rattle.xp_step.specs.steps.HasTables.{HasTables};
-ghost use Rattle.xp_step.specs.EventLine.{IsEventLine, IsShort, event_line_context};
+ghost use Rattle.xp_step.specs.EventLine.{IsEventLine, event_line_context};
 ghost use Rattle.xp_step.specs.Plan.{Plans};
-ghost use Rattle.xp_step.specs.steps.Branches.{IsPlainPlan};
 ghost use Rattle.xp_step.specs.Relays.{RelaysRepresentCalls};
 ghost use Rattle.xp_step.specs.StepContext.{step_context};
 ghost use Rattle.xp_step.specs.Table.{action_in};
 ghost use Rattle.xp_step.specs.InForce.{force_of, in_force};
-ghost use Rattle.xp_step.specs.EventOutputs.{no_outputs};
 ghost use Rattle.xp_machine.specs.World.{state_at};
 ghost use Rattle.xp_subs.specs.Sound.{IsSound};
 ghost use Rattle.xp_subs.specs.Tables.{line_count};
 
 use super::Plan;
 use super::answer::answer;
-use super::clearing::{confirm, fail, fall, free, rise};
+use super::clearing::{confirm, fail, fall, free, nothing, rise};
 use super::event_line::{EventLine, charged_on};
-use super::received_packets::{accepted_in, clear_in, request_in};
+use super::received_packets::request_in;
 use super::relaying::carry;
 use super::request::{Cancelled, request};
 use crate::entry::Entry;
@@ -79,16 +77,9 @@ pub fn plan_of<A: Allocator + Copy>(
         Action::Expired => fail(alloc, &found, TIMER_EXPIRED_FOR_INCOMING_CALL),
         Action::NewCall => new_call(&found, what, workspace),
         Action::Collision => collision(&found, what, workspace),
-        Action::Answer => answered(&found, what, workspace),
-        Action::Confirm => cleared(&found, what, workspace),
+        Action::Answer => answer(&found, what, workspace),
+        Action::Confirm => confirm(&found, what, workspace),
     }
-}
-
-/// Plans that nothing happens.
-fn nothing<A: Allocator + Copy>(alloc: A, _found: &EventLine<'_, A>) -> Result<Plan<A>, AllocError>
-    ensures { (before : List (Entered A)) → IfOk result (λ plan. IsPlainPlan plan (event_line_context _found.now before) no_outputs []) }
-{
-    Ok(Plan::none(alloc))
 }
 
 /// Plans a call request of a line that is in no call.
@@ -121,40 +112,5 @@ fn collision<A: Allocator + Copy>(
     match request_in(what) {
         None => nothing(workspace.alloc, found),
         Some(call) => request(found, &call, Cancelled::by(found), workspace),
-    }
-}
-
-/// Plans the answer to the incoming call of its line.
-#[inline(never)]
-fn answered<A: Allocator + Copy>(
-    found: &EventLine<'_, A>,
-    what: &What<A>,
-    workspace: &mut Workspace<A>,
-) -> Result<Plan<A>, AllocError>
-    requires line { found.now.line < line_count found.now.in_force.now }
-    requires terms { AllHaveTerms found.now.subs.now found.now.machine.now }
-    requires coupled { AreCoupled found.now.subs.now found.now.machine.now }
-    requires short { IsShort found.now.charged }
-    ensures { (before : List (Entered A)) → HasTables found.now before → IsEventLine found.now before → IfOk result (Plans (event_line_context found.now before) what.now Answers) }
-{
-    match accepted_in(what) {
-        None => nothing(workspace.alloc, found),
-        Some(accepted) => answer(found, &accepted, workspace),
-    }
-}
-
-/// Plans a clear request.
-#[inline(never)]
-fn cleared<A: Allocator + Copy>(
-    found: &EventLine<'_, A>,
-    what: &What<A>,
-    workspace: &mut Workspace<A>,
-) -> Result<Plan<A>, AllocError>
-    requires { IsShort found.now.charged }
-    ensures { (before : List (Entered A)) → IsEventLine found.now before → IfOk result (Plans (event_line_context found.now before) what.now Clears) }
-{
-    match clear_in(what) {
-        None => nothing(workspace.alloc, found),
-        Some(clear) => confirm(found, &clear, workspace),
     }
 }

@@ -1,13 +1,13 @@
-use Rattle.std.proofs.Common.{◌≡◌, ◌++◌, flat_map, OnOk, string_bytes, subst}
+use Rattle.std.proofs.Common.{◌≡◌, ◌++◌, ◌∙◌, ap, arith, flat_map, length, string_bytes}
+use Rattle.std.proofs.lemmas.List.{take_all}
 use Rattle.xp_console.specs.Metrics.{cause_sample, causes_text}
-use Rattle.xp_console.proofs.Appends.{then_appended}
+use Rattle.xp_console.proofs.Appends.{both_appended}
 use Rattle.xp_console.proofs.metrics.push_by_cause.Goals as goal
 
 pub returns : goal.returns
 unfolding causes_text
 returns c =
-    let t = c.push_causes.new.text in
-    let before = c.push_head.new.text in
-    let sample = cause_sample c.args.name.now in
-    then_appended c.push_causes.result _ _ _ _ _ c.in_ok-push_head.ensures
-    (subst (λ counts. OnOk c.push_causes.result (string_bytes t ≡ string_bytes before ++ flat_map sample counts)) c.by_cause.ensures c.push_causes.ensures)
+    let samples = c.by_cause-counts.result in
+    let ten : length samples ≡ 10 = ap length c.by_cause-counts.ensures in
+    both_appended _ _ _ _ _ c.in_ok-push_head.ensures
+    (c.loop-count.invariant ∙ ap (λ all. string_bytes c.push_head.new.text ++ flat_map (cause_sample c.args.name.now) all) (take_all c.loop-count.count-index samples (omega arith) ∙ c.by_cause-counts.ensures))

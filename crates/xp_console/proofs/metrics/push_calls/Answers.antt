@@ -1,13 +1,14 @@
-use Rattle.std.proofs.Common.{◌≡◌, ◌++◌, string_bytes, subst}
-use Rattle.xp_console.specs.Metrics.{calls_text, live_text}
+use Rattle.std.proofs.Common.{◌≡◌, ◌++◌, arith, codes, length, string_bytes, subst}
+use Rattle.xp_console.specs.Metrics.{calls_text, live_text, single_text}
 use Rattle.xp_console.proofs.Appends.{then_appended}
 use Rattle.xp_console.proofs.metrics.push_calls.Goals as goal
 
 pub returns : goal.returns
-unfolding calls_text
+unfolding calls_text live_text
 returns c =
-    let t = c.push_live.new.text in
-    let before = c.args.text.now in
-    then_appended c.push_single.result _ _ _ _ _
-    (subst (λ calls. string_bytes t ≡ string_bytes before ++ live_text calls) c.deref.ensures.value c.in_ok-push_live.ensures)
-    c.push_single.ensures
+    let old = string_bytes c.args.text.now in
+    let new = string_bytes c.push_single.new.text in
+    let live : c.len.result ≡ length c.args.status.now.calls.items = omega arith in
+    then_appended c.push_single-2.result _ _ _ _ _
+    (subst (λ count. new ≡ old ++ single_text (codes "gonukire_calls_live") (codes "gauge") (codes "Calls that have not ended.") count) live c.in_ok-push_single.ensures)
+    c.push_single-2.ensures

@@ -11,10 +11,8 @@ use Rattle.xp_exchange.proofs.acting.act_on.Goals as goal
 
 pub returns-then-count-journal-clause-acted : goal.returns-then-count-journal-clause-acted
 returns-then-count-journal-clause-acted g c =
-    let known = g.W.Write.contents c.args.writer.now in
     let old = c.args.core.now in
-    subst (λ fault. (text : List ℕ) × Appends known known text × Acted old (c.args.event ∷ []) (Err fault) old text) (sym c.refuse.ensures)
-    (stopped old old c.args.event known Journal (omega (arith, c.if-count-journal.true, c.count.ensures.count, c.journal.ensures, ap (λ subs. subs.journal) c.subs.ensures)) refl)
+    stopped old old c.args.event (g.W.Write.contents c.args.writer.now) Journal (omega (arith, c.if-count-journal.true, c.count.ensures.count, c.journal.ensures, ap (λ subs. subs.journal) c.subs.ensures)) refl
 
 pub tell-told-requires-clause-writable : goal.tell-told-requires-clause-writable
 tell-told-requires-clause-writable g c =

@@ -1,9 +1,11 @@
 use Rattle.std.proofs.Common.{◌++◌, Err, ap, drop, flat_map, subst, sym, take, ◌+◌, ◌∙◌}
+use Rattle.std.proofs.lemmas.List.{take_all}
 use Rattle.std.proofs.lemmas.Result.{err_from_is_err_and}
 use Rattle.std.specs.Io.KnownBytes.{Appends}
 use Rattle.xp_cdr.specs.RecordLine.{record_line}
 use Rattle.xp_writing.proofs.Bytes.{appends_both}
 use Rattle.xp_keeping.specs.Printing.{IsFront, Prints}
+use Rattle.xp_keeping.proofs.Flushed.{flushed}
 use Rattle.xp_keeping.proofs.Fronts.{around, front_behind, one_more}
 use Rattle.xp_keeping.proofs.printing.print_records.Goals as goal
 
@@ -30,3 +32,12 @@ loop-call-preserved g c =
     let i = c.loop-call.call-index in
     subst (Appends (g.W.Write.contents c.args.writer.now) (g.W.Write.contents c.print_record.new.writer)) (sym (one_more text records i c.call-item.result c.loop-call-test.true c.call-item.is))
     (appends_both _ _ _ (flat_map text (take i records)) (text c.call-item.result) c.loop-call.invariant c.in_ok-print_record.ensures)
+
+pub returns : goal.returns
+returns g c =
+    let text = record_line in
+    let records = c.args.calls.now in
+    let i = c.loop-call.call-index in
+    let written = subst (λ front. Appends (g.W.Write.contents c.args.writer.now) (g.W.Write.contents c.loop-call.writer) (flat_map text front))
+    (take_all i records c.loop-call-test.false) c.loop-call.invariant in
+    flushed _ _ _ (flat_map text records) c.flush.result written c.flush.ensures

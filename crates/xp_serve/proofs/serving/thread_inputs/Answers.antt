@@ -12,4 +12,4 @@ returns-clause-passes g c =
 pub returns-clause-ports : goal.returns-clause-ports
 returns-clause-ports g c =
     let was = c.loop-pass.invariant in
-    all_moved (λ part. part.port) (λ end. end.0) c.loop-pass.served.items _ _ (nil_from_length (into_iter_items c.loop-pass.ends) (was.many_ends ∙ was.ends ∙ c.in-None.ensures.steps.0)) was.ports
+    all_moved (λ part. part.port) (λ end. end.port) c.loop-pass.served.items _ _ (nil_from_length (into_iter_items c.loop-pass.ends) (was.many_ends ∙ was.ends ∙ c.in-None.ensures.steps.0)) was.ports

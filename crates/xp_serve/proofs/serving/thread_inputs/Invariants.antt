@@ -8,5 +8,5 @@ invariant-loop-pass g l = record {
   many_ends : length (into_iter_items l.ends) ≡ into_iter_len l.ends;
   ends : into_iter_len l.ends ≡ into_iter_len l.pass-iterator;
   passes : map (λ part. part.pass) l.served.items ++ into_iter_items l.pass-iterator ≡ l.fn.passes.items;
-  ports : map (λ part. part.port) l.served.items ++ map (λ end. end.0) (into_iter_items l.ends) ≡ l.fn.sockets;
+  ports : map (λ part. part.port) l.served.items ++ map (λ end. end.port) (into_iter_items l.ends) ≡ l.fn.sockets;
 }

@@ -5,5 +5,5 @@ use Rattle.xp_tcp.proofs.ends.ends_of.Given as goal
 abbrev pub invariant-loop-line : goal.invariant-loop-line
 invariant-loop-line l = record {
   many : length (into_iter_items l.line-iterator) ≡ into_iter_len l.line-iterator;
-  ends : map (λ end. end.0) l.ends.items ++ into_iter_items l.line-iterator ≡ l.fn.lines.items;
+  ends : map (λ end. end.port) l.ends.items ++ into_iter_items l.line-iterator ≡ l.fn.lines.items;
 }

@@ -1,4 +1,4 @@
-use Rattle.std.proofs.Common.{◌≡◌, ◌∙◌, ℕ, List, [], ◌∷◌, refl, sym, ap, subst, true, map, string_bytes, Err, IfErr, inl, inr, ⊎_elim}
+use Rattle.std.proofs.Common.{◌≡◌, ◌∙◌, ℕ, List, [], ◌∷◌, refl, sym, ap, subst, true, map, string_bytes, Result, Ok, Err, IfErr, IfOk, inl, inr, ⊎_elim}
 use Rattle.std.proofs.lemmas.Result.{err_from_is_err_and}
 use Rattle.clap.specs.Kinds.{or_else}
 use Rattle.clap.specs.Words.{App, HasKind, HasMatchesOf, IsAmong, Kinds, Text, fault_of, is_simple_and_free, kind_of, subcommand_of, subcommand_rows_of}
@@ -8,6 +8,15 @@ use Rattle.clap.specs.declared.parser.matches.ArgMatches.{ArgMatches}
 use Rattle.xp_arguments.specs.declared.subcommand.Subcommand.{Subcommand}
 use Rattle.xp_arguments.specs.Commands.{AreRight, AsksFor, kinds_of, program}
 use Rattle.xp_arguments.proofs.arguments.Arguments.read.Goals as goal
+
+-- what is known of a value is known of a result
+ok_then : {X E : Type 0} {P Q : X → Type 0} (result : Result X E) → ((x : X) → P x → Q x) → IfOk result P → IfOk result Q
+ok_then (Ok x) then is = then x is
+ok_then (Err error) then is = tt
+
+err_then : {X E : Type 0} {P Q : E → Type 0} (result : Result X E) → ((error : E) → P error → Q error) → IfErr result P → IfErr result Q
+err_then (Ok x) then is = tt
+err_then (Err error) then is = then error is
 
 is_free : (app : App) → app ≡ program → is_simple_and_free app ≡ true
 is_free app same = subst (λ app. is_simple_and_free app ≡ true) (sym same) refl
@@ -43,8 +52,8 @@ kind_alike app words error same has =
     first_kind (fault_of program words) error (subst (λ kinds. HasKind kinds error) (faults_alike app words same) (has (is_free app same)))
 
 -- and so has that of words without a fault which ask for nothing
-unfit_kind : (kinds : Kinds) (error : Error) → kinds ≡ [] → kind_of error ≡ InvalidValue → HasKind (or_else kinds (InvalidValue ∷ [])) error
-unfit_kind kinds error none is = subst (λ kinds. HasKind (or_else kinds (InvalidValue ∷ [])) error) (sym none) (inr (inl is))
+unfit_kind : (kinds : Kinds) → kinds ≡ [] → (error : Error) → HasKind (InvalidValue ∷ []) error → HasKind (or_else kinds (InvalidValue ∷ [])) error
+unfit_kind kinds none error has = subst (λ kinds. HasKind (or_else kinds (InvalidValue ∷ [])) error) (sym none) has
 
 pub returns-in_err-matches-clause-kind : goal.returns-in_err-matches-clause-kind
 returns-in_err-matches-clause-kind c =
@@ -53,37 +62,33 @@ returns-in_err-matches-clause-kind c =
     subst (λ result. IfErr result (HasKind (kinds_of words))) (sym (p.1 ∙ ap Err p.2))
     (kind_alike _ words c.in_err-matches.field-0.0 c.in_ok-command.ensures c.in_err-matches.ensures.kinds)
 
-pub returns-clause-kind : goal.returns-clause-kind
-returns-clause-kind c =
-    let words = map string_bytes c.args.words.now in
-    unfit_kind (fault_of program words) c.in_ok-unfit-in-None.field-0 (no_fault _ words c.in_ok-command.ensures c.in_ok-matches.ensures.kinds) c.in_ok-unfit-in-None.ensures.refused
-
 -- what was found among the words is what they ask for
 found_alike : (words : List Text) (app : App) (matches : ArgMatches) → app ≡ program → HasMatchesOf app words matches
     → subcommand_rows_of matches ≡ subcommand_of program words
 found_alike words app matches same has = (subst (λ app. HasMatchesOf app words matches) same has refl).1
 
 found_as_asked : (words : List Text) (app : App) (matches : ArgMatches) → app ≡ program → HasMatchesOf app words matches
-    → ((subcommand : Subcommand) (name : List ℕ) → AsksFor (subcommand_rows_of matches) subcommand name → ⊥) → AreRight words → ⊥
-found_as_asked words app matches same has none right =
-    none right.0 right.1 (subst (λ found. AsksFor found right.0 right.1) (sym (found_alike words app matches same has)) right.2.asked)
+    → (right : AreRight words) → AsksFor (subcommand_rows_of matches) right.0 right.1
+found_as_asked words app matches same has right =
+    subst (λ found. AsksFor found right.0 right.1) (sym (found_alike words app matches same has)) right.2.asked
 
-pub returns-in_err-unfit-in-None-clause-taken : goal.returns-in_err-unfit-in-None-clause-taken
-returns-in_err-unfit-in-None-clause-taken c =
+pub returns-clause-asked : goal.returns-clause-asked
+returns-clause-asked c =
     let words = map string_bytes c.args.words.now in
-    let p = err_from_is_err_and c.from_residual-in_err-unfit-in-None.result c.from_residual-in_err-unfit-in-None.ensures.1 in
-    subst (λ result. IfErr result (λ error. AreRight words → kind_of error ≡ OutOfMemory)) (sym p.1)
-    (λ right. absurd (found_as_asked words _ _ c.in_ok-command.ensures c.in_ok-matches.ensures.matches (rw c.in-None.is at c.in_ok-arguments.ensures.none) right))
+    ok_then c.found_in.result
+    (λ asked is. record {
+      faultless = no_fault _ words c.in_ok-command.ensures c.in_ok-matches.ensures.kinds;
+      asked = subst (λ found. AsksFor found asked.subcommand asked.operand.now) (found_alike words _ _ c.in_ok-command.ensures c.in_ok-matches.ensures.matches) is;
+    })
+    c.found_in.ensures.asked
 
 pub returns-clause-taken : goal.returns-clause-taken
 returns-clause-taken c =
-    λ right. absurd (found_as_asked (map string_bytes c.args.words.now) _ _ c.in_ok-command.ensures c.in_ok-matches.ensures.matches (rw c.in-None.is at c.in_ok-arguments.ensures.none) right)
+    err_then c.found_in.result
+    (λ error memory right. memory (right.0, right.1, found_as_asked (map string_bytes c.args.words.now) _ _ c.in_ok-command.ensures c.in_ok-matches.ensures.matches right))
+    c.found_in.ensures.taken
 
-pub returns-in-Some-clause-asked : goal.returns-in-Some-clause-asked
-returns-in-Some-clause-asked c =
+pub returns-clause-kind : goal.returns-clause-kind
+returns-clause-kind c =
     let words = map string_bytes c.args.words.now in
-    let asked = c.in-Some.arguments in
-    record {
-      faultless = no_fault _ words c.in_ok-command.ensures c.in_ok-matches.ensures.kinds;
-      asked = subst (λ found. AsksFor found asked.subcommand asked.operand.now) (found_alike words _ _ c.in_ok-command.ensures c.in_ok-matches.ensures.matches) (rw c.in-Some.is at c.in_ok-arguments.ensures.found);
-    }
+    err_then c.found_in.result (unfit_kind (fault_of program words) (no_fault _ words c.in_ok-command.ensures c.in_ok-matches.ensures.kinds)) c.found_in.ensures.kind

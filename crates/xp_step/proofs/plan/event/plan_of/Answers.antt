@@ -34,7 +34,7 @@ pub returns-in-Collision : goal.returns-in-Collision
 returns-in-Collision g c = as_acted (step_context c.args.subs.now.opening c.args.before.now.items c.args.machine.now c.args.event.now.line c.args.event.now.moment) c.args.event.now.what (action_at c.args.machine.now c.args.event.now) c.collision.result Collision (c.in-Collision.ensures ∙ ap (λ state. action_in (channel_of state) c.args.event.now.what) c.line.ensures.state) (c.collision.ensures c.args.before.now.items (c.in_force.ensures ∙ c.requires.force) (c.charged_on.ensures.charged c.args.event.now.moment))
 
 pub returns-in-Answer : goal.returns-in-Answer
-returns-in-Answer g c = as_acted (step_context c.args.subs.now.opening c.args.before.now.items c.args.machine.now c.args.event.now.line c.args.event.now.moment) c.args.event.now.what (action_at c.args.machine.now c.args.event.now) c.answered.result Answer (c.in-Answer.ensures ∙ ap (λ state. action_in (channel_of state) c.args.event.now.what) c.line.ensures.state) (c.answered.ensures c.args.before.now.items (c.in_force.ensures ∙ c.requires.force) (c.charged_on.ensures.charged c.args.event.now.moment))
+returns-in-Answer g c = as_acted (step_context c.args.subs.now.opening c.args.before.now.items c.args.machine.now c.args.event.now.line c.args.event.now.moment) c.args.event.now.what (action_at c.args.machine.now c.args.event.now) c.answer.result Answer (c.in-Answer.ensures ∙ ap (λ state. action_in (channel_of state) c.args.event.now.what) c.line.ensures.state) (c.answer.ensures c.args.before.now.items (c.in_force.ensures ∙ c.requires.force) (c.charged_on.ensures.charged c.args.event.now.moment))
 
 pub returns-in-Confirm : goal.returns-in-Confirm
-returns-in-Confirm g c = as_acted (step_context c.args.subs.now.opening c.args.before.now.items c.args.machine.now c.args.event.now.line c.args.event.now.moment) c.args.event.now.what (action_at c.args.machine.now c.args.event.now) c.cleared.result Confirm (c.in-Confirm.ensures ∙ ap (λ state. action_in (channel_of state) c.args.event.now.what) c.line.ensures.state) (c.cleared.ensures c.args.before.now.items (c.charged_on.ensures.charged c.args.event.now.moment))
+returns-in-Confirm g c = as_acted (step_context c.args.subs.now.opening c.args.before.now.items c.args.machine.now c.args.event.now.line c.args.event.now.moment) c.args.event.now.what (action_at c.args.machine.now c.args.event.now) c.confirm.result Confirm (c.in-Confirm.ensures ∙ ap (λ state. action_in (channel_of state) c.args.event.now.what) c.line.ensures.state) (c.confirm.ensures c.args.before.now.items (c.charged_on.ensures.charged c.args.event.now.moment))
