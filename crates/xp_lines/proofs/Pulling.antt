@@ -1,5 +1,5 @@
 -- What becomes of octets that are pulled, before and behind a pull.
-use Rattle.std.proofs.Common.{◌≡◌, ◌⊎◌, ℕ, List, [], ◌∷◌, ◌++◌, refl, sym, ap, ◌∙◌, append-nil, subst, Option, None, Some, Bool, true, false, inl, inr, Result, Ok, Err}
+use Rattle.std.proofs.Common.{◌≡◌, ◌⊎◌, ℕ, List, [], ◌∷◌, ◌++◌, refl, sym, ap, ◌∙◌, append-nil, subst, Option, None, Some, Bool, true, false, inl, inr, Ok, Err}
 use Rattle.xp_packets.specs.declared.modulus.Modulus.{Modulus}
 use Rattle.xp_frames.specs.declared.fault.FrameFault.{FrameFault}
 use Rattle.xp_frames.specs.declared.fault.FrameFault.TheVariants as faults

@@ -1,15 +1,14 @@
 -- What a line has gained by its state, as it has turns, ends and drops outputs.
 use Rattle.std.proofs.Common.{◌≡◌, ℕ, List, [], ◌∷◌, ◌++◌, refl, sym, ap, ◌∙◌, subst, Option, None, Some}
-use Rattle.std.specs.List.{AllByRecursion}
 use Rattle.std.specs.declared.alloc.Global.{Global as Alloc}
 use Rattle.xp_step.specs.declared.event.What.TheVariants.{Down}
 use Rattle.xp_subs.specs.Tables.{Tables, modulus_of}
 use Rattle.xp_lock.specs.Passes.{Pass}
 use Rattle.xp_lines.specs.Offers.{Gains}
-use Rattle.xp_lines.specs.Sessions.{AreMoved, AreSessions, Drops, IsGone, IsLineServed, PastSession, left_at_last}
+use Rattle.xp_lines.specs.Sessions.{AreMoved, AreSessions, Drops, PastSession, left_at_last}
 use Rattle.xp_lines.specs.Wire.{Writes, WritesRest}
 use Rattle.xp_lines.specs.steps.Serving.{EndsFor, GoesOnTo, IsLineSo, StaysSo, StopsWith, WritesOn}
-use Rattle.xp_lines.specs.steps.Sessions.{Closes, GoesBy, GoesOn, IsOn, IsThere, Steps, here}
+use Rattle.xp_lines.specs.steps.Sessions.{Closes, IsOn, IsThere, here}
 use Rattle.xp_lines.specs.Turns.{seen_on}
 use Rattle.xp_lines.specs.declared.line.EndReason.{EndReason}
 use Rattle.xp_lines.specs.declared.line.EndReason.TheVariants.{Stopped}

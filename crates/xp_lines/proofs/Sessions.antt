@@ -1,5 +1,5 @@
 -- The links of a line, one after the other, turn by turn.
-use Rattle.std.proofs.Common.{◌≡◌, ◌⊎◌, ℕ, List, [], ◌∷◌, ◌++◌, refl, sym, ap, ◌∙◌, append_assoc, append-nil, subst, Option, None, Some, Bool, Result, Ok, Err, inl, inr}
+use Rattle.std.proofs.Common.{◌≡◌, ◌⊎◌, ℕ, List, [], ◌∷◌, ◌++◌, refl, sym, ap, ◌∙◌, append-nil, subst, Option, None, Some, Bool, Result, Ok, Err, inl, inr}
 use Rattle.std.specs.List.{AllByRecursion}
 use Rattle.xp_packets.specs.declared.modulus.Modulus.{Modulus}
 use Rattle.xp_subs.specs.Tables.{Tables, modulus_of}
@@ -12,7 +12,6 @@ use Rattle.xp_lines.specs.Offers.{Gains}
 use Rattle.xp_lines.specs.Sessions.{AreSessions, ComesUp, Drops, EndsWritten, Goes, IsGone, IsLineDown, IsLineServed, IsSession, PastSession, WritesLast, left_at_last}
 use Rattle.xp_lines.specs.Together.{AreTurns, Left, MayFollow, last_of}
 use Rattle.xp_lines.specs.Turns.{Here, IsTurn, Seen}
-use Rattle.xp_lines.specs.Wire.{Took}
 use Rattle.xp_lines.proofs.Written.{rest_lost, took_both}
 use Rattle.xp_lines.specs.steps.Offering.{Tells, event_on}
 use Rattle.xp_lines.specs.steps.Sessions.{AreOver, Closes, Connects, GoesBy, GoesOn, IsHere, IsOn, IsThere, Leaves, Steps}

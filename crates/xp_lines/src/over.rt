@@ -1,7 +1,12 @@
 //! Why a turn of a line is over before its end.
 
-ghost use Rattle.std.specs.Prelude.{◌≡◌};
-ghost use Rattle.xp_lines.specs.steps.Reads.{over_of};
+ghost use Rattle.std.specs.Prelude.{◌≡◌, Some, false};
+ghost use Rattle.xp_lines.specs.Reads.{keeps};
+ghost use Rattle.xp_lines.specs.steps.Reads.{over_fed};
+
+use std::alloc::Allocator;
+use xp_frames::FrameFault;
+use xp_lock::OfferFault;
 
 /// Why a turn of a line is over before its end.
 #[derive(Clone, Copy)]
@@ -16,12 +21,25 @@ pub enum Over {
     Journal,
 }
 
-/// The result of a step, and whether the line had anything to do in it or before it.
-pub(crate) fn or_moved(step: Result<bool, Over>, moved: bool) -> Result<bool, Over>
-    ensures { over_of result ≡ over_of step }
-{
-    match step {
-        Ok(more) => Ok(more || moved),
-        Err(over) => Err(over),
+impl From<FrameFault> for Over {
+    ghost from_gives = { λ fault over. over ≡ over_fed fault };
+
+    fn from(fault: FrameFault) -> Over {
+        match fault {
+            FrameFault::Version(_) | FrameFault::Length(_) | FrameFault::Failed => Over::Link,
+            FrameFault::Memory => Over::Memory,
+        }
+    }
+}
+
+impl<A: Allocator> From<OfferFault<A>> for Over {
+    ghost from_gives = { λ _ over. keeps (Some over) ≡ false };
+
+    fn from(refused: OfferFault<A>) -> Over {
+        match refused {
+            OfferFault::Halted(_) => Over::Halted,
+            OfferFault::JournalFull(_) => Over::Journal,
+            OfferFault::NoRoom(_) | OfferFault::Memory(_) => Over::Memory,
+        }
     }
 }

@@ -1,6 +1,6 @@
 //! The place of a line in the exchange, from which it offers its events.
 
-ghost use Rattle.std.specs.Prelude.{◌≡◌, ◌⊎◌, IfOk, List, None, Some, false};
+ghost use Rattle.std.specs.Prelude.{◌≡◌, ◌⊎◌, IfOk, List, None, false};
 ghost use Rattle.xp_step.specs.declared.event.What.{What as Happening};
 ghost use Rattle.xp_lock.specs.Passes.{GainsEvent};
 ghost use Rattle.xp_lines.specs.steps.Offering.{TakesFront, Tells, event_on};
@@ -17,7 +17,7 @@ use crate::waiting::Waiting;
 use std::alloc::{Allocator, Global};
 use std::sync::Wait;
 use xp_links::{Bell, Clock};
-use xp_lock::{ExchangeGuard, LinePass, OfferFault, Receipt};
+use xp_lock::{ExchangeGuard, LinePass, Receipt};
 use xp_seats::Name;
 use xp_step::Event;
 use xp_subs::LineNo;
@@ -101,10 +101,8 @@ impl<N: Name, C: Clock, B: Bell, A: Allocator + Copy> Seat<N, C, B, A> {
             return Ok(false);
         }
         *since = None;
-        match self.offer(rt, shared, now, Waiting::expire()) {
-            Ok(_) => Ok(true),
-            Err(over) => Err(over),
-        }
+        self.offer(rt, shared, now, Waiting::expire())?;
+        Ok(true)
     }
 
     /// Offers events in order, at this moment, under one lock, until the exchange refuses one. Where there are none it takes no
@@ -150,10 +148,7 @@ impl<N: Name, C: Clock, B: Bell, A: Allocator + Copy> Seat<N, C, B, A> {
         ensures { TakesFront self.old.pass ready.items (over_of result) self.new.pass }
     {
         for next in ready {
-            match self.offer_held(rt, guard, moment, next) {
-                Ok(done) => *records = done.records() as u64,
-                Err(over) => return Err(over),
-            }
+            *records = self.offer_held(rt, guard, moment, next)?.records() as u64;
         }
         Ok(())
     }
@@ -174,13 +169,9 @@ impl<N: Name, C: Clock, B: Bell, A: Allocator + Copy> Seat<N, C, B, A> {
             moment,
             what: waiting.into_what(),
         };
-        let taken = guard
-            .offer(rt, &mut self.pass, event)
-            .map_err(|fault| over_by(&fault));
-        if let Ok(done) = &taken {
-            self.ring_for_others(done);
-        }
-        taken
+        let done = guard.offer(rt, &mut self.pass, event)?;
+        self.ring_for_others(&done);
+        Ok(done)
     }
 
     /// Rings for the other lines that received outputs by an event, all but the last one. The events after this one mostly put out to
@@ -214,16 +205,5 @@ impl<N: Name, C: Clock, B: Bell, A: Allocator + Copy> Seat<N, C, B, A> {
         if signals.records_made(records) {
             self.has_new_records = true;
         }
-    }
-}
-
-/// Why the exchange refused an event, without the event.
-fn over_by<A: Allocator>(fault: &OfferFault<A>) -> Over
-    ensures { keeps (Some result) ≡ false }
-{
-    match fault {
-        OfferFault::Halted(_) => Over::Halted,
-        OfferFault::JournalFull(_) => Over::Journal,
-        OfferFault::NoRoom(_) | OfferFault::Memory(_) => Over::Memory,
     }
 }

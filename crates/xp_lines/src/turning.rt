@@ -3,10 +3,10 @@
 ghost use Rattle.std.specs.Prelude.{◌≡◌, ◌⊎◌, ℕ, [], false, true};
 ghost use Rattle.xp_subs.specs.Tables.{modulus_of};
 ghost use Rattle.xp_lines.specs.Reads.{is_wanting, keeps, stays};
-ghost use Rattle.xp_lines.specs.Turns.{Downs, Follows, ReadsAndExpires, IsTurn, WritesAndReads, seen_on};
+ghost use Rattle.xp_lines.specs.Turns.{Downs, Follows, IsTurn, WritesAndReads, seen_on};
 ghost use Rattle.xp_lines.specs.steps.Reads.{over_of};
 
-use crate::over::{Over, or_moved};
+use crate::over::Over;
 use crate::seat::Seat;
 use crate::session::Session;
 use crate::shared::Shared;
@@ -39,6 +39,15 @@ pub struct Turned {
     /// Whether an allocation failed. Only then, and where the exchange takes nothing any more, may octets that came and outputs
     /// that were taken be lost.
     pub wanting: bool,
+}
+
+impl Turned {
+    /// A turn that left the line so, in which an allocation failed or none did.
+    fn new(after: TurnOutcome, wanting: bool) -> Turned
+        ensures { (result.after ≡ after) × (result.wanting ≡ wanting) }
+    {
+        Turned { after, wanting }
+    }
 }
 
 /// Runs one turn of a line on its link, in this order:
@@ -88,33 +97,12 @@ fn finish<N: Name, C: Clock, B: Bell, A: Allocator + Copy, R: Wait>(
             if !moved {
                 seat.bell.idle();
             }
-            ended(TurnOutcome::Linked)
+            Turned::new(TurnOutcome::Linked, false)
         }
         Err(Over::Link) => go_down(rt, shared, seat, now, owes_down),
-        Err(Over::Memory) => for_memory(go_down(rt, shared, seat, now, owes_down).after),
-        Err(Over::Halted) => ended(TurnOutcome::Halted),
-        Err(Over::Journal) => ended(TurnOutcome::Journal),
-    }
-}
-
-/// The result of a turn.
-fn ended(after: TurnOutcome) -> Turned
-    ensures { result.after ≡ after }
-{
-    Turned {
-        after,
-        wanting: false,
-    }
-}
-
-/// The result of a turn in which an allocation failed.
-fn for_memory(after: TurnOutcome) -> Turned
-    ensures after { result.after ≡ after }
-    ensures says { result.wanting ≡ true }
-{
-    Turned {
-        after,
-        wanting: true,
+        Err(Over::Memory) => Turned::new(go_down(rt, shared, seat, now, owes_down).after, true),
+        Err(Over::Halted) => Turned::new(TurnOutcome::Halted, false),
+        Err(Over::Journal) => Turned::new(TurnOutcome::Journal, false),
     }
 }
 
@@ -129,17 +117,18 @@ fn go_down<N: Name, C: Clock, B: Bell, A: Allocator + Copy, R: Wait>(
     ensures { Downs seat.old.pass result.after seat.new.pass owes_down.new }
 {
     match seat.offer(rt, shared, now, Waiting::down()) {
-        Ok(_) => ended(TurnOutcome::Dropped),
-        Err(Over::Halted) => ended(TurnOutcome::Halted),
-        Err(Over::Journal) => ended(TurnOutcome::Journal),
+        Ok(_) => Turned::new(TurnOutcome::Dropped, false),
+        Err(Over::Halted) => Turned::new(TurnOutcome::Halted, false),
+        Err(Over::Journal) => Turned::new(TurnOutcome::Journal, false),
         Err(Over::Memory | Over::Link) => {
             *owes_down = true;
-            for_memory(TurnOutcome::DownOwed)
+            Turned::new(TurnOutcome::DownOwed, true)
         }
     }
 }
 
-/// A turn without its Down: it writes, reads, and lets a call expire. Returns whether the line had anything to do.
+/// A turn without its Down: it writes, reads, and then lets an incoming call expire that was not answered in time. Returns whether the
+/// line had anything to do.
 fn write_and_read<N: Name, L: Link, C: Clock, B: Bell, A: Allocator + Copy, R: Wait>(
     rt: &R,
     shared: &Shared<'_, N, A>,
@@ -158,30 +147,8 @@ fn write_and_read<N: Name, L: Link, C: Clock, B: Bell, A: Allocator + Copy, R: W
     if halted {
         return Err(Over::Halted);
     }
-    match written {
-        Ok(more) => or_moved(read_and_expire(rt, shared, seat, session, now), more),
-        Err(over) => Err(over),
-    }
-}
-
-/// Reads, and then lets an incoming call expire that was not answered in time. Returns whether the line had anything to do.
-fn read_and_expire<N: Name, L: Link, C: Clock, B: Bell, A: Allocator + Copy, R: Wait>(
-    rt: &R,
-    shared: &Shared<'_, N, A>,
-    seat: &mut Seat<N, C, B, A>,
-    session: &mut Session<L, A>,
-    now: u64,
-) -> Result<bool, Over>
-    ensures hears { ReadsAndExpires (modulus_of N.subs seat.old.pass.line) now seat.old.pass session.old.frames (L.pulled session.old.link) session.old.unanswered_since (over_of result) seat.new.pass session.new.frames (L.pulled session.new.link) session.new.unanswered_since }
-    ensures pushed { L.pushed session.new.link ≡ L.pushed session.old.link }
-    ensures left { keeps (over_of result) ≡ true → session.new.frames.waiting ≡ [] }
-    ensures kept { (session.new.connection ≡ session.old.connection) × (session.new.owes_down ≡ session.old.owes_down) × (session.new.unwritten ≡ session.old.unwritten) }
-{
-    match session.read_in(rt, shared, seat, now) {
-        Ok(moved) => {
-            let late = seat.expire_late(rt, shared, now, &mut session.unanswered_since);
-            or_moved(late, moved)
-        }
-        Err(over) => Err(over),
-    }
+    let more = written?;
+    let moved = session.read_in(rt, shared, seat, now)?;
+    let late = seat.expire_late(rt, shared, now, &mut session.unanswered_since)?;
+    Ok(more | moved | late)
 }

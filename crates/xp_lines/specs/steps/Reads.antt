@@ -1,5 +1,5 @@
 -- What one pull adds to the frames of a link, and how the reading of a turn ends.
-use Rattle.std.specs.Prelude.{◌≡◌, ◌⊎◌, ℕ, Bool, true, false, List, [], ◌++◌, Option, Some, None, Result, Ok, Err}
+use Rattle.std.specs.Prelude.{◌≡◌, ◌⊎◌, ℕ, true, List, [], ◌++◌, Option, Some, None, Result, Ok, Err}
 use Rattle.xp_frames.specs.declared.fault.FrameFault.{FrameFault}
 use Rattle.xp_frames.specs.declared.fault.FrameFault.TheVariants as faults
 use Rattle.xp_frames.specs.Deframer.{DeframerState}

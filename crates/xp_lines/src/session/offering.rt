@@ -44,19 +44,9 @@ impl<L: Link, A: Allocator + Copy> Session<L, A> {
             return Err(Over::Memory);
         };
         let sent = is_any(&ready);
-        let offered = seat.offer_all(rt, shared, now, ready);
+        seat.offer_all(rt, shared, now, ready)?;
         self.unanswered_since = answered(sent, self.unanswered_since);
-        sent_by(offered, sent)
-    }
-}
-
-/// The result of the offering, and whether there were any packets.
-fn sent_by(offered: Result<(), Over>, sent: bool) -> Result<bool, Over>
-    ensures { over_of result ≡ over_of offered }
-{
-    match offered {
-        Ok(()) => Ok(sent),
-        Err(over) => Err(over),
+        Ok(sent)
     }
 }
 

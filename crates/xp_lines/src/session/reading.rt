@@ -7,15 +7,15 @@ ghost use Rattle.xp_subs.specs.Tables.{modulus_of};
 ghost use Rattle.xp_lines.specs.Offers.{Gains};
 ghost use Rattle.xp_lines.specs.AnswerTimer.{answered, has_any};
 ghost use Rattle.xp_lines.specs.Reads.{Reads, keeps, stays};
-ghost use Rattle.xp_lines.specs.steps.Reads.{Pulls, over_fed, over_of};
+ghost use Rattle.xp_lines.specs.steps.Reads.{Pulls, over_of};
 
-use crate::over::{Over, or_moved};
+use crate::over::Over;
 use crate::seat::Seat;
 use crate::session::Session;
 use crate::shared::Shared;
 use std::alloc::Allocator;
 use std::sync::Wait;
-use xp_frames::{Deframer, FrameFault};
+use xp_frames::Deframer;
 use xp_links::{Bell, Clock, Link, Pulled};
 use xp_seats::Name;
 
@@ -38,10 +38,8 @@ impl<L: Link, A: Allocator + Copy> Session<L, A> {
         ensures kept { (self.new.connection ≡ self.old.connection) × (self.new.owes_down ≡ self.old.owes_down) × (self.new.unwritten ≡ self.old.unwritten) }
     {
         let pulled = pull_in(&mut self.link, &mut self.frames);
-        match self.offer_waiting(rt, shared, seat, now) {
-            Ok(sent) => or_moved(pulled, sent),
-            Err(over) => Err(over),
-        }
+        let sent = self.offer_waiting(rt, shared, seat, now)?;
+        Ok(pulled? | sent)
     }
 }
 
@@ -60,29 +58,12 @@ fn pull_in<L: Link, A: Allocator + Copy>(
 {
     let mut piece = [0; PIECE];
     match link.pull(&mut piece) {
-        Pulled::Octets(count) => feed_in(frames, &piece[..count]),
+        Pulled::Octets(count) => {
+            frames.feed(&piece[..count])?;
+            Ok(true)
+        }
         Pulled::Nothing => Ok(false),
         Pulled::Ended => Err(Over::Link),
         Pulled::Fault => Err(Over::Link),
-    }
-}
-
-/// Cuts octets into frames.
-fn feed_in<A: Allocator + Copy>(frames: &mut Deframer<A>, octets: &[u8]) -> Result<bool, Over>
-    ensures { Pulls frames.old octets.now (over_of result) frames.new }
-{
-    match frames.feed(octets) {
-        Ok(()) => Ok(true),
-        Err(fault) => Err(over_at(fault)),
-    }
-}
-
-/// What a fault of the deframer is for the link.
-fn over_at(fault: FrameFault) -> Over
-    ensures { result ≡ over_fed fault }
-{
-    match fault {
-        FrameFault::Version(_) | FrameFault::Length(_) | FrameFault::Failed => Over::Link,
-        FrameFault::Memory => Over::Memory,
     }
 }

@@ -53,9 +53,10 @@ impl<L: Link, A: Allocator + Copy> Session<L, A> {
         let modulus = seat.pass.modulus();
         let taken = self.take_out(rt, shared, seat, modulus, now);
         let flow = push_rest(&mut self.link, &mut self.unwritten);
-        match taken {
-            Ok(more) => unless_broken(flow, more),
-            Err(over) => Err(over),
+        let more = taken?;
+        match flow {
+            Flow::Free | Flow::Waits => Ok(more),
+            Flow::Broken => Err(Over::Link),
         }
     }
 
@@ -73,13 +74,11 @@ impl<L: Link, A: Allocator + Copy> Session<L, A> {
         ensures link { self.new.link ≡ self.old.link }
         ensures kept { (self.new.connection ≡ self.old.connection) × (self.new.owes_down ≡ self.old.owes_down) × (self.new.frames ≡ self.old.frames) }
     {
-        let connection = self.connection;
         for _output in 0..MOST_OUTPUTS {
             let Some(item) = shared.exchange.next_out(rt, &mut seat.pass) else {
                 return Ok(false);
             };
-            let (unwritten, since) = (&mut self.unwritten, &mut self.unanswered_since);
-            match put_item(modulus, now, connection, &item, unwritten, since) {
+            match self.put_item(modulus, now, &item) {
                 Ok(false) => {}
                 Ok(true) => return Err(Over::Link),
                 Err(_) => return Err(Over::Memory),
@@ -87,45 +86,37 @@ impl<L: Link, A: Allocator + Copy> Session<L, A> {
         }
         Ok(true)
     }
-}
 
-/// Whether there is more to write, unless the link is broken.
-fn unless_broken(flow: Flow, more: bool) -> Result<bool, Over> {
-    match flow {
-        Flow::Free | Flow::Waits => Ok(more),
-        Flow::Broken => Err(Over::Link),
-    }
-}
-
-/// Appends the octets of an output by this modulus, if it is for this connection. A written incoming call begins to wait for its
-/// answer, and a clear indication ends the wait. Returns whether the output closes this connection.
-///
-/// # Errors
-///
-/// `AllocError` if an allocation fails. Then nothing is appended.
-fn put_item<A: Allocator + Copy>(
-    modulus: Modulus,
-    now: u64,
-    connection: u64,
-    item: &Outgoing<A>,
-    unwritten: &mut Vec<u8, A>,
-    since: &mut Option<u64>,
-) -> Result<bool, AllocError>
-    ensures ok { OnOk result (unwritten.new.items ≡ unwritten.old.items ++ carried modulus connection item.now) }
-    ensures since { OnOk result (since.new ≡ cond (item.now.connection == connection) (since_after_put now since.old item.now.put) since.old) }
-    ensures closes { IfOk result (λ over. over ≡ closes connection item.now) }
-    ensures err { OnErr result (unwritten.new.items ≡ unwritten.old.items) }
-{
-    if item.connection != connection {
-        return Ok(false);
-    }
-    match &item.put {
-        Put::Send { identifier, packet } => {
-            put_packet(modulus, *identifier, packet, unwritten)?;
-            *since = since_after(now, *since, packet);
-            Ok(false)
+    /// Appends the octets of an output by this modulus, if it is for this connection. A written incoming call begins to wait for its
+    /// answer, and a clear indication ends the wait. Returns whether the output closes this connection.
+    ///
+    /// # Errors
+    ///
+    /// `AllocError` if an allocation fails. Then nothing is appended.
+    fn put_item(
+        &mut self,
+        modulus: Modulus,
+        now: u64,
+        item: &Outgoing<A>,
+    ) -> Result<bool, AllocError>
+        ensures ok { OnOk result (self.new.unwritten.items ≡ self.old.unwritten.items ++ carried modulus self.old.connection item.now) }
+        ensures since { OnOk result (self.new.unanswered_since ≡ cond (item.now.connection == self.old.connection) (since_after_put now self.old.unanswered_since item.now.put) self.old.unanswered_since) }
+        ensures closes { IfOk result (λ over. over ≡ closes self.old.connection item.now) }
+        ensures err { OnErr result (self.new.unwritten.items ≡ self.old.unwritten.items) }
+        ensures link { self.new.link ≡ self.old.link }
+        ensures kept { (self.new.connection ≡ self.old.connection) × (self.new.owes_down ≡ self.old.owes_down) × (self.new.frames ≡ self.old.frames) }
+    {
+        if item.connection != self.connection {
+            return Ok(false);
         }
-        Put::Close => Ok(true),
+        match &item.put {
+            Put::Send { identifier, packet } => {
+                put_packet(modulus, *identifier, packet, &mut self.unwritten)?;
+                self.unanswered_since = since_after(now, self.unanswered_since, packet);
+                Ok(false)
+            }
+            Put::Close => Ok(true),
+        }
     }
 }
 

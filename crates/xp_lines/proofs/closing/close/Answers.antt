@@ -1,4 +1,4 @@
-use Rattle.std.proofs.Common.{◌≡◌, subst, sym}
+use Rattle.std.proofs.Common.{subst, sym}
 use Rattle.xp_lines.specs.steps.Offering.{Tells}
 use Rattle.xp_lines.specs.steps.Sessions.{Closes, here}
 use Rattle.xp_lines.proofs.Sessions.{goes_down, goes_not, drops_nothing}

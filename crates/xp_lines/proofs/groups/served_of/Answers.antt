@@ -1,4 +1,4 @@
-use Rattle.std.proofs.Common.{[], ◌∷◌, ◌++◌, ap, append-nil, append_assoc, arith, length, map, rules, sym, ◌∙◌}
+use Rattle.std.proofs.Common.{◌∷◌, ◌++◌, ap, append-nil, append_assoc, arith, length, map, rules, sym, ◌∙◌}
 use Rattle.std.proofs.lemmas.List.{nil_from_length}
 use Rattle.std.specs.Vec.Iter.{into_iter_items}
 use Rattle.xp_lines.proofs.groups.served_of.Goals as goal

@@ -1,4 +1,4 @@
-use Rattle.std.proofs.Common.{◌≡◌, sym, subst}
+use Rattle.std.proofs.Common.{◌≡◌, subst}
 use Rattle.xp_lines.specs.declared.line.EndReason.TheVariants.{Memory, Stopped}
 use Rattle.xp_lines.proofs.Serving.{ends_stopped, so_otherwise}
 use Rattle.xp_lines.specs.steps.Serving.{IsLineSo}

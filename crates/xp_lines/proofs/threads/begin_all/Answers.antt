@@ -1,4 +1,4 @@
-use Rattle.std.proofs.Common.{◌≡◌, ◌++◌, [], ap, append_assoc, arith, rules, sym, ◌∙◌}
+use Rattle.std.proofs.Common.{◌++◌, ap, append_assoc, arith, rules, sym, ◌∙◌}
 use Rattle.std.specs.Vec.Iter.{into_iter_items}
 use Rattle.xp_lines.specs.steps.Threads.{begun_lines, lines_of}
 use Rattle.xp_lines.proofs.Served.{begun_more}

@@ -1,4 +1,4 @@
-use Rattle.std.proofs.Common.{◌++◌, subst, sym, ap, ◌∙◌}
+use Rattle.std.proofs.Common.{subst, sym, ap, ◌∙◌}
 use Rattle.xp_lines.specs.Sessions.{AreMoved}
 use Rattle.xp_lines.specs.steps.Serving.{EndsSo}
 use Rattle.xp_lines.specs.steps.Threads.{Adds, lines_of}

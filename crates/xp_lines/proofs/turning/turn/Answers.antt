@@ -1,5 +1,4 @@
-use Rattle.std.proofs.Common.{◌≡◌, false, subst, sym, true, ◌∙◌}
-use Rattle.xp_lines.proofs.Worked.{downs_line, gone_kept, linked_stays, turn_owed, turn_worked, worked_line}
+use Rattle.xp_lines.proofs.Worked.{gone_kept, linked_stays, turn_worked, worked_line}
 use Rattle.xp_lines.proofs.turning.turn.Goals as goal
 
 pub returns-clause-turn : goal.returns-clause-turn

@@ -1,5 +1,5 @@
 use Rattle.std.proofs.Common.{ap, arith, length, rules, subst, sym}
-use Rattle.xp_lines.proofs.Offered.{TakenSoFar, accepted, refused, taken_none, taken_one, takes_until}
+use Rattle.xp_lines.proofs.Offered.{TakenSoFar, accepted, taken_none, taken_one}
 use Rattle.xp_lines.proofs.seat.Seat.offer_each.Goals as goal
 
 pub loop-next-init : goal.loop-next-init
@@ -17,5 +17,5 @@ loop-next-preserved g c =
     let fewer = c.in-Some.ensures.steps.1 in
     record {
       many = let one = ap length items in let many = was.many in omega (arith, one, fewer, many);
-      so_far = taken_one _ _ _ _ _ _ _ was.so_far items (accepted _ _ _ _ _ c.offer_held.ensures.tells c.in-Ok.is);
+      so_far = taken_one _ _ _ _ _ _ _ was.so_far items (accepted _ _ _ _ _ c.offer_held.ensures.tells c.in_ok-offer_held.was);
     }

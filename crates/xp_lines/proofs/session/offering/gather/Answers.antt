@@ -1,6 +1,6 @@
 use Rattle.std.proofs.Common.{subst, sym}
 use Rattle.xp_lines.specs.FrameEvents.{IsReadAs}
-use Rattle.xp_lines.proofs.Offered.{ReadSoFar, read_all, read_more, read_none}
+use Rattle.xp_lines.proofs.Offered.{ReadSoFar, read_more, read_none}
 use Rattle.xp_lines.proofs.session.offering.gather.Goals as goal
 
 pub packets-init : goal.packets-init
