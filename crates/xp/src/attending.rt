@@ -4,20 +4,20 @@ ghost use Rattle.std.specs.Prelude.{◌≡◌, [], IfOk, IfSome, None};
 ghost use Rattle.xp_serve.specs.Serving.{Serves};
 
 use crate::beside::Beside;
+use crate::ordered_run::OrderedRun;
+use crate::runtime::ServingRuntime;
 use crate::served_console::ServedConsole;
 use crate::status_feed::StatusFeed;
 use log::Log;
 use std::alloc::{AllocError, AllocGlobal, Global};
 use std::marker::Brand;
 use std::net::{Net, TcpListener, TcpStream};
-use std::random::RandomSource;
 use std::sync::atomic::AtomicBool;
 use std::sync::atomic::Ordering::SeqCst;
 use std::sync::{Arc, Wait};
 use std::thread;
 use std::thread::{JoinHandle, Scope, Threads};
 use std::time::Clock;
-use xp_arguments::ServeOrder;
 use xp_clock::WallClock;
 use xp_keeping::{OperatorLog, RecordKeeper};
 use xp_live::LiveKeeper;
@@ -42,23 +42,10 @@ type ServedRenewal<R> = Renewal<HostRuntime, R>;
 /// Serves the lines with this keeper of their charging records, tells what the operator has to know, and looks whether to stop.
 /// Where a console is ordered it is served beside the lines.
 pub(crate) fn attend<
-    R: AllocGlobal
-        + Clock
-        + Copy
-        + Drop
-        + Log
-        + Net<Listener = TcpListener, Stream = TcpStream>
-        + RandomSource
-        + Send
-        + Sync
-        + Threads
-        + Wait
-        + 'static,
+    R: ServingRuntime + Net<Listener = TcpListener, Stream = TcpStream>,
     K: RecordKeeper,
 >(
-    rt: &R,
-    order: &ServeOrder<'_>,
-    clock: WallClock,
+    ordered: &OrderedRun<'_, '_, R>,
     subs: Subs,
     beside: Beside<R>,
     keeper: K,
@@ -68,9 +55,9 @@ pub(crate) fn attend<
     requires new { K.received keeper ≡ [] }
     ensures { IfOk result (λ end. Serves K.kept K.keeps subs keeper end.keeper end.outcome) }
 {
-    let prepared = prepare(rt, order, clock, &subs, &beside.tracing)?;
-    let (console, terms, watching) = prepared.watching(rt, order, clock, beside);
-    attend_named::<Brand, R, K>(rt, console, terms, watching, subs, keeper)
+    let prepared = prepare(ordered, &subs, &beside.tracing)?;
+    let (console, terms, watching) = prepared.watching(ordered, beside);
+    attend_named::<Brand, R, K>(ordered.rt, console, terms, watching, subs, keeper)
 }
 
 /// What is made before the lines are served.
@@ -98,26 +85,12 @@ impl Drop for Prepared {
 }
 
 /// Makes what has to be there before the lines are served. The console listens then.
-fn prepare<
-    R: AllocGlobal
-        + Clock
-        + Copy
-        + Drop
-        + Log
-        + Net<Listener = TcpListener, Stream = TcpStream>
-        + RandomSource
-        + Send
-        + Sync
-        + Threads
-        + Wait
-        + 'static,
->(
-    rt: &R,
-    order: &ServeOrder<'_>,
-    clock: WallClock,
+fn prepare<R: ServingRuntime + Net<Listener = TcpListener, Stream = TcpStream>>(
+    ordered: &OrderedRun<'_, '_, R>,
     subs: &Subs,
     tracing: &Tracing<R>,
 ) -> Result<Prepared, Failure> {
+    let OrderedRun { rt, order, clock } = *ordered;
     let alloc = rt.alloc();
     let notices = tracing.notices(alloc, clock.start)?;
     let notices = Arc::new(alloc, notices).map_err(|_| TaskFailure::Memory)?;
@@ -144,9 +117,7 @@ impl Prepared {
     /// The console, the terms, and what the lines are watched with.
     fn watching<R: Copy + Drop + Log + Wait>(
         self,
-        rt: &R,
-        order: &ServeOrder<'_>,
-        clock: WallClock,
+        ordered: &OrderedRun<'_, '_, R>,
         beside: Beside<R>,
     ) -> (Option<ServedConsole>, ServingTerms, Watching<R>)
         ensures { result.2.live ≡ beside.live }
@@ -158,6 +129,7 @@ impl Prepared {
             console,
             opening,
         } = self;
+        let OrderedRun { rt, order, clock } = *ordered;
         let (tracing, live, partial_records, file) = beside.into_parts();
         let watching = Watching {
             opening,
@@ -205,16 +177,7 @@ impl<R: Drop + Log + Wait> Drop for Watching<R> {
     }
 }
 
-impl<
-    R: Copy
-        + Drop
-        + Log
-        + Net<Listener = TcpListener, Stream = TcpStream>
-        + Send
-        + Threads
-        + Wait
-        + 'static,
-> Watching<R> {
+impl<R: ServingRuntime + Net<Listener = TcpListener, Stream = TcpStream>> Watching<R> {
     /// What feeds the console over this board.
     fn feed<B: BoardName>(
         &self,
@@ -263,17 +226,7 @@ impl<
 /// stop only where the console granted one.
 fn attend_named<
     B: BoardName + Send + Sync,
-    R: AllocGlobal
-        + Clock
-        + Copy
-        + Drop
-        + Log
-        + Net<Listener = TcpListener, Stream = TcpStream>
-        + Send
-        + Sync
-        + Threads
-        + Wait
-        + 'static,
+    R: ServingRuntime + Net<Listener = TcpListener, Stream = TcpStream>,
     K: RecordKeeper,
 >(
     rt: &R,
@@ -304,17 +257,7 @@ fn attend_named<
 /// Serves the lines, with a console beside them.
 fn attend_with_console<
     B: BoardName + Send + Sync,
-    R: AllocGlobal
-        + Clock
-        + Copy
-        + Drop
-        + Log
-        + Net<Listener = TcpListener, Stream = TcpStream>
-        + Send
-        + Sync
-        + Threads
-        + Wait
-        + 'static,
+    R: ServingRuntime + Net<Listener = TcpListener, Stream = TcpStream>,
     K: RecordKeeper,
 >(
     rt: &R,

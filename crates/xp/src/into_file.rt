@@ -9,18 +9,14 @@ ghost use Rattle.xp_serve.specs.Serving.{Serves};
 use crate::attending::attend;
 use crate::beside::Beside;
 use crate::live::{LiveOfRun, RunBefore, begin_live_of, path_of_live};
+use crate::ordered_run::OrderedRun;
+use crate::runtime::ServingRuntime;
 use crate::serving::CopiedSubs;
-use log::Log;
 use std::alloc::AllocGlobal;
 use std::fs::{File, Files};
 use std::io;
 use std::io::{Read, Write};
 use std::net::{Net, TcpListener, TcpStream};
-use std::random::RandomSource;
-use std::sync::Wait;
-use std::thread::Threads;
-use std::time::Clock;
-use xp_arguments::ServeOrder;
 use xp_cdr::{DetailFile, ExchangeName, ExchangeRun, Opened, RecordFile, path_in};
 use xp_clock::WallClock;
 use xp_days::{DayFiles, day_of, file_before, newest_file, open_newest};
@@ -33,86 +29,59 @@ use xp_subs::Subs;
 /// Serves the lines, and keeps their charging records in the file of call detail records at this path. Whatever serves has no other
 /// way to standard output than the output that it is lent here.
 pub(crate) fn serve_into_file<
-    R: AllocGlobal
-        + Clock
-        + Copy
-        + Drop
-        + Files<File = File>
-        + Log
-        + Net<Listener = TcpListener, Stream = TcpStream>
-        + RandomSource
-        + Send
-        + Sync
-        + Threads
-        + Wait
-        + 'static,
+    R: ServingRuntime + Net<Listener = TcpListener, Stream = TcpStream> + Files<File = File>,
 >(
-    rt: &R,
+    ordered: &OrderedRun<'_, '_, R>,
     host: HostRuntime,
-    order: &ServeOrder<'_>,
     path: &str,
-    clock: WallClock,
     subs: CopiedSubs,
 ) -> Result<(), Failure>
     requires names { subs.names ≡ subs.own }
     requires live { subs.live ≡ subs.own }
 {
-    let live = path_of_live(rt.alloc(), path)?;
-    let (mut file, opened) = DetailFile::open(rt.alloc(), host, path)?;
+    let alloc = ordered.rt.alloc();
+    let live = path_of_live(alloc, path)?;
+    let (mut file, opened) = DetailFile::open(alloc, host, path)?;
     let before = RunBefore {
         opened,
         live,
         earlier: None,
     };
-    let live = begin_live_of(rt, host, order, clock, &before, &mut file)?;
+    let live = begin_live_of(ordered, host, &before, &mut file)?;
     let details = DetailsOfRun {
         file,
-        run: run_of(rt, order, clock, before.last_started(live.left), &subs.own),
-        log: OperatorLog::new(host, order.quiet),
+        run: run_of(ordered, before.last_started(live.left), &subs.own),
+        log: OperatorLog::new(host, ordered.order.quiet),
         live,
     };
-    serve_run(rt, host, order, clock, subs, details)
+    serve_run(ordered, host, subs, details)
 }
 
 /// Serves the lines as `serve_into_file` does, with a file of call detail records for each day in this directory.
 pub(crate) fn serve_into_directory<
-    R: AllocGlobal
-        + Clock
-        + Copy
-        + Drop
-        + Files<File = File>
-        + Log
-        + Net<Listener = TcpListener, Stream = TcpStream>
-        + RandomSource
-        + Send
-        + Sync
-        + Threads
-        + Wait
-        + 'static,
+    R: ServingRuntime + Net<Listener = TcpListener, Stream = TcpStream> + Files<File = File>,
 >(
-    rt: &R,
+    ordered: &OrderedRun<'_, '_, R>,
     host: HostRuntime,
-    order: &ServeOrder<'_>,
     path: &str,
-    clock: WallClock,
     subs: CopiedSubs,
 ) -> Result<(), Failure>
     requires names { subs.names ≡ subs.own }
     requires live { subs.live ≡ subs.own }
 {
-    let today = day_of(clock.seconds());
+    let today = day_of(ordered.clock.seconds());
     let newest = newest_file(&host, path, today)?;
-    let paths = PathsOfDirectory::of(rt, host, path, newest.day)?;
+    let paths = PathsOfDirectory::of(ordered.rt, host, path, newest.day)?;
     let (mut file, opened) = open_newest(host, path, &newest, today)?;
     let (directory, before) = paths.with(opened);
-    let live = begin_live_of(rt, host, order, clock, &before, &mut file)?;
+    let live = begin_live_of(ordered, host, &before, &mut file)?;
     let details = DetailsOfRun {
         file: DayFiles::new(directory, newest.day, file),
-        run: run_of(rt, order, clock, before.last_started(live.left), &subs.own),
-        log: OperatorLog::new(host, order.quiet),
+        run: run_of(ordered, before.last_started(live.left), &subs.own),
+        log: OperatorLog::new(host, ordered.order.quiet),
         live,
     };
-    serve_run(rt, host, order, clock, subs, details)
+    serve_run(ordered, host, subs, details)
 }
 
 /// What is in a directory of files of days, by its paths.
@@ -171,25 +140,11 @@ impl PathsOfDirectory {
 
 /// Serves the lines, and keeps their charging records with these.
 fn serve_run<
-    R: AllocGlobal
-        + Clock
-        + Copy
-        + Drop
-        + Files<File = File>
-        + Log
-        + Net<Listener = TcpListener, Stream = TcpStream>
-        + RandomSource
-        + Send
-        + Sync
-        + Threads
-        + Wait
-        + 'static,
+    R: ServingRuntime + Net<Listener = TcpListener, Stream = TcpStream> + Files<File = File>,
     F: RecordFile + Send + 'static,
 >(
-    rt: &R,
+    ordered: &OrderedRun<'_, '_, R>,
     host: HostRuntime,
-    order: &ServeOrder<'_>,
-    clock: WallClock,
     subs: CopiedSubs,
     details: DetailsOfRun<F>,
 ) -> Result<(), Failure>
@@ -201,22 +156,20 @@ fn serve_run<
     requires failures { F.failures details.file ≡ 0 }
 {
     let mut output = PatientOutput::new(host);
-    let told = serve_with_details(rt, order, clock, subs, details, &mut output)?;
+    let told = serve_with_details(ordered, subs, details, &mut output)?;
     told?;
     Ok(())
 }
 
 /// The run that begins now, where the one before began at this moment, in seconds since 1970, if there was one.
 fn run_of<R: Files<File = File>>(
-    rt: &R,
-    order: &ServeOrder<'_>,
-    clock: WallClock,
+    ordered: &OrderedRun<'_, '_, R>,
     last_started: Option<u64>,
     subs: &Subs,
 ) -> ExchangeRun {
     ExchangeRun {
-        started: moment_of_start(clock, last_started),
-        exchange: name_of_exchange(rt, order.exchange, subs),
+        started: moment_of_start(ordered.clock, last_started),
+        exchange: name_of_exchange(ordered.rt, ordered.order.exchange, subs),
     }
 }
 
@@ -264,25 +217,11 @@ impl<F: RecordFile> DetailsOfRun<F> {
 ///
 /// Why serving did not begin. Then nothing is written.
 fn serve_with_details<
-    R: AllocGlobal
-        + Clock
-        + Copy
-        + Drop
-        + Files<File = File>
-        + Log
-        + Net<Listener = TcpListener, Stream = TcpStream>
-        + RandomSource
-        + Send
-        + Sync
-        + Threads
-        + Wait
-        + 'static,
+    R: ServingRuntime + Net<Listener = TcpListener, Stream = TcpStream> + Files<File = File>,
     F: RecordFile + Send + 'static,
     W: Write,
 >(
-    rt: &R,
-    order: &ServeOrder<'_>,
-    clock: WallClock,
+    ordered: &OrderedRun<'_, '_, R>,
     subs: CopiedSubs,
     details: DetailsOfRun<F>,
     output: &mut W,
@@ -296,36 +235,24 @@ fn serve_with_details<
     ensures ok { IfOk result (λ told. (keeper : Queued Keeping) × LeavesAlone subs.own details.run keeper (W.contents output.old) (W.contents output.new) told) }
     ensures err { OnErr result (W.contents output.new ≡ W.contents output.old) }
 {
+    let OrderedRun { rt, order, clock } = *ordered;
     let (own, names, told_by, subscription_file) = subs.into_parts();
     let (file, run, log, live) = details.into_parts();
     let tracing = Tracing::begin(rt, order, clock, &own)?;
     let begun = Beside::new(tracing, subscription_file);
-    let beside = live.kept_in(rt, clock, told_by, &run, begun)?;
+    let beside = live.kept_in(ordered, told_by, &run, begun)?;
     let keeper = DetailKeeper::new(rt.alloc(), file, run.copy(), clock, log);
     let keeper = start_details(*rt, rt.alloc(), names, keeper)?;
-    let end = attend_details(rt, order, clock, own, beside, keeper)?;
+    let end = attend_details(ordered, own, beside, keeper)?;
     Ok(settle(rt.alloc(), &run, end, output))
 }
 
 /// Serves the lines, with this keeper of call detail records on a thread of its own.
 fn attend_details<
-    R: AllocGlobal
-        + Clock
-        + Copy
-        + Drop
-        + Log
-        + Net<Listener = TcpListener, Stream = TcpStream>
-        + RandomSource
-        + Send
-        + Sync
-        + Threads
-        + Wait
-        + 'static,
+    R: ServingRuntime + Net<Listener = TcpListener, Stream = TcpStream>,
     F: RecordFile + Send + 'static,
 >(
-    rt: &R,
-    order: &ServeOrder<'_>,
-    clock: WallClock,
+    ordered: &OrderedRun<'_, '_, R>,
     subs: Subs,
     beside: Beside<R>,
     keeper: QueuedKeeper<DetailKeeper<F, HostRuntime>, R>,
@@ -335,7 +262,7 @@ fn attend_details<
     requires new { keeper.given ≡ [] }
     ensures { IfOk result (λ end. Serves (AreKeptBeside AreKept GoesOnAs) KeepsBeside subs keeper end.keeper end.outcome) }
 {
-    attend(rt, order, clock, subs, beside, keeper)
+    attend(ordered, subs, beside, keeper)
 }
 
 /// When the run began, in seconds since 1970: now, or a second behind the one before, if that began later. So no two runs of a file

@@ -3,12 +3,12 @@
 ghost use Rattle.std.specs.Prelude.{◌≡◌, IfOk, IfSome};
 
 use crate::beside::Beside;
+use crate::ordered_run::OrderedRun;
 use log::Log;
 use std::alloc::{AllocError, AllocGlobal, Global};
 use std::fs::{File, Files};
 use std::sync::Wait;
 use std::thread::Threads;
-use xp_arguments::ServeOrder;
 use xp_cdr::{DetailFile, ExchangeRun, Opened, RecordFile};
 use xp_clock::WallClock;
 use xp_keeping::OperatorLog;
@@ -81,10 +81,8 @@ impl Drop for LiveOfRun {
 /// Opens the file of live calls that was ordered, and gives calls of the run before their partial records, in this file of call
 /// detail records, which has just been opened. Tells how both were found.
 pub(crate) fn begin_live_of<R: AllocGlobal + Files<File = File> + Log>(
-    rt: &R,
+    ordered: &OrderedRun<'_, '_, R>,
     host: HostRuntime,
-    order: &ServeOrder<'_>,
-    clock: WallClock,
     before: &RunBefore,
     records: &mut DetailFile<HostRuntime>,
 ) -> Result<LiveOfRun, Failure>
@@ -92,6 +90,7 @@ pub(crate) fn begin_live_of<R: AllocGlobal + Files<File = File> + Log>(
     ensures synced { ⟦<DetailFile<HostRuntime> as RecordFile>⟧.synced records.new ≡ ⟦<DetailFile<HostRuntime> as RecordFile>⟧.synced records.old }
     ensures failures { ⟦<DetailFile<HostRuntime> as RecordFile>⟧.failures records.new ≡ ⟦<DetailFile<HostRuntime> as RecordFile>⟧.failures records.old }
 {
+    let OrderedRun { rt, order, clock } = *ordered;
     tell_found(rt, clock, &before.opened);
     if order.no_live {
         return Ok(LiveOfRun {
@@ -114,8 +113,7 @@ impl LiveOfRun {
     /// What goes on beside the lines: this, and what keeps the live calls of this run in the file, if there is one.
     pub(crate) fn kept_in<R: AllocGlobal + Copy + Drop + Send + Threads + Wait + 'static>(
         self,
-        rt: &R,
-        clock: WallClock,
+        ordered: &OrderedRun<'_, '_, R>,
         subs: Subs,
         run: &ExchangeRun,
         beside: Beside<R>,
@@ -123,15 +121,14 @@ impl LiveOfRun {
         ensures { IfOk result (λ beside. IfSome beside.live (λ live. live.opening ≡ subs)) }
     {
         let partial_records = self.left.calls as u64;
-        let live = self.keep(rt, clock, subs, run)?;
+        let live = self.keep(ordered, subs, run)?;
         Ok(beside.with_live(live, partial_records))
     }
 
     /// What keeps the live calls of this run in the file, if there is one.
     fn keep<R: AllocGlobal + Copy + Drop + Send + Threads + Wait + 'static>(
         self,
-        rt: &R,
-        clock: WallClock,
+        ordered: &OrderedRun<'_, '_, R>,
         subs: Subs,
         run: &ExchangeRun,
     ) -> Result<Option<LiveKeeper<R>>, Failure>
@@ -141,6 +138,7 @@ impl LiveOfRun {
         let Some(file) = file else {
             return Ok(None);
         };
+        let OrderedRun { rt, clock, .. } = *ordered;
         let alloc = rt.alloc();
         let thread = LiveThread::start(*rt, alloc, file, clock, log)?;
         Ok(Some(LiveKeeper::begin(alloc, subs, run.copy(), clock, thread)?))

@@ -7,21 +7,19 @@ mod attending;
 mod beside;
 mod into_file;
 mod live;
+mod ordered_run;
+mod runtime;
 mod served_console;
 mod serving;
 mod status_feed;
 
+use crate::runtime::ServingRuntime;
 use crate::serving::{CopiedSubs, serve_lines};
-use log::Log;
 use std::fs::{File, Files};
 use std::io::ErrorKind;
 use std::net::{Net, TcpListener, TcpStream};
 use std::process::ExitCode;
-use std::random::RandomSource;
 use std::rt::Env;
-use std::sync::Wait;
-use std::thread::Threads;
-use std::time::Clock;
 use std::{env, fs, io};
 use xp_arguments::{
     Arguments, CheckOrder, QuestionOrder, ReplayOrder, ServeOrder, Subcommand, refused,
@@ -49,22 +47,12 @@ fn main(rt: HostRuntime) -> ExitCode {
 
 /// Performs what the words of the command line ask for.
 fn run<
-    R: AllocGlobal
-        + Clock
-        + Copy
-        + Drop
-        + Env
-        + Files<File = File>
-        + Input
-        + Log
+    R: ServingRuntime
         + Net<Listener = TcpListener, Stream = TcpStream>
-        + Print
-        + RandomSource
-        + Send
-        + Sync
-        + Threads
-        + Wait
-        + 'static,
+        + Files<File = File>
+        + Env
+        + Input
+        + Print,
 >(rt: &R, host: HostRuntime) -> Result<(), Failure> {
     let words = words(rt)?;
     match Arguments::read(rt.alloc(), &words) {
@@ -75,21 +63,11 @@ fn run<
 
 /// Performs the subcommand on the file, or at the console, that the arguments name.
 fn perform<
-    R: AllocGlobal
-        + Clock
-        + Copy
-        + Drop
+    R: ServingRuntime
+        + Net<Listener = TcpListener, Stream = TcpStream>
         + Files<File = File>
         + Input
-        + Log
-        + Net<Listener = TcpListener, Stream = TcpStream>
-        + Print
-        + RandomSource
-        + Send
-        + Sync
-        + Threads
-        + Wait
-        + 'static,
+        + Print,
 >(rt: &R, host: HostRuntime, arguments: Arguments<'_>) -> Result<(), Failure> {
     let operand = arguments.operand;
     match arguments.subcommand {
@@ -184,19 +162,7 @@ fn print_told<R: AllocGlobal + Print>(rt: &R, told: &clap::Error) -> Result<(), 
 
 /// Serves the lines of a subscription file.
 fn serve_file<
-    R: AllocGlobal
-        + Clock
-        + Copy
-        + Drop
-        + Files<File = File>
-        + Log
-        + Net<Listener = TcpListener, Stream = TcpStream>
-        + RandomSource
-        + Send
-        + Sync
-        + Threads
-        + Wait
-        + 'static,
+    R: ServingRuntime + Net<Listener = TcpListener, Stream = TcpStream> + Files<File = File>,
 >(rt: &R, host: HostRuntime, order: &ServeOrder<'_>, file: &str) -> Result<(), Failure> {
     let text = fs::read_to_string(rt, file);
     let subs = copied_subs(rt, host, file, &text)?;

@@ -6,15 +6,15 @@ ghost use Rattle.xp_serve.specs.Serving.{Serves};
 use crate::attending::attend;
 use crate::beside::Beside;
 use crate::into_file::{serve_into_directory, serve_into_file};
+use crate::ordered_run::OrderedRun;
+use crate::runtime::ServingRuntime;
 use log::Log;
 use std::alloc::AllocGlobal;
 use std::fs::{File, Files};
 use std::io::BufWriter;
 use std::net::{Net, TcpListener, TcpStream};
-use std::random::RandomSource;
 use std::sync::Wait;
 use std::thread::Threads;
-use std::time::Clock;
 use xp_arguments::{DetailsOrder, ServeOrder};
 use xp_clock::WallClock;
 use xp_keeping::{
@@ -76,63 +76,35 @@ type PrintingKeeper<R> = QueuedKeeper<RecordPrinter<BufWriter<StandardOutput<Hos
 /// Serves the lines as they were ordered. Their charging records are kept in the file of call detail records, or in those of a
 /// directory, if there is one, and are otherwise printed: by `host`, since what a thread of its own works with has no type parameter.
 pub(crate) fn serve_lines<
-    R: AllocGlobal
-        + Clock
-        + Copy
-        + Drop
-        + Files<File = File>
-        + Log
-        + Net<Listener = TcpListener, Stream = TcpStream>
-        + RandomSource
-        + Send
-        + Sync
-        + Threads
-        + Wait
-        + 'static,
+    R: ServingRuntime + Net<Listener = TcpListener, Stream = TcpStream> + Files<File = File>,
 >(rt: &R, host: HostRuntime, order: &ServeOrder<'_>, subs: CopiedSubs) -> Result<(), Failure>
     requires names { subs.names ≡ subs.own }
     requires live { subs.live ≡ subs.own }
 {
-    let clock = WallClock::start();
+    let ordered = OrderedRun {
+        rt,
+        order,
+        clock: WallClock::start(),
+    };
     match order.details {
-        Some(DetailsOrder::File(path)) => serve_into_file(rt, host, order, path, clock, subs),
-        Some(DetailsOrder::Directory(path)) => {
-            serve_into_directory(rt, host, order, path, clock, subs)
-        }
-        None => { serve_and_print(rt, host, order, clock, subs) }
+        Some(DetailsOrder::File(path)) => serve_into_file(&ordered, host, path, subs),
+        Some(DetailsOrder::Directory(path)) => serve_into_directory(&ordered, host, path, subs),
+        None => serve_and_print(&ordered, host, subs),
     }
 }
 
 /// Serves the lines, and prints their charging records.
 fn serve_and_print<
-    R: AllocGlobal
-        + Clock
-        + Copy
-        + Drop
-        + Files<File = File>
-        + Log
-        + Net<Listener = TcpListener, Stream = TcpStream>
-        + RandomSource
-        + Send
-        + Sync
-        + Threads
-        + Wait
-        + 'static,
->(
-    rt: &R,
-    host: HostRuntime,
-    order: &ServeOrder<'_>,
-    clock: WallClock,
-    subs: CopiedSubs,
-) -> Result<(), Failure>
+    R: ServingRuntime + Net<Listener = TcpListener, Stream = TcpStream> + Files<File = File>,
+>(ordered: &OrderedRun<'_, '_, R>, host: HostRuntime, subs: CopiedSubs) -> Result<(), Failure>
     requires { subs.names ≡ subs.own }
 {
     let (own, names, _, file) = subs.into_parts();
-    let tracing = Tracing::begin(rt, order, clock, &own)?;
+    let tracing = Tracing::begin(ordered.rt, ordered.order, ordered.clock, &own)?;
     let beside = Beside::new(tracing, file);
-    let keeper = begin_printing(rt, host, names)?;
-    let end = attend(rt, order, clock, own, beside, keeper)?;
-    tell_unprinted(rt, clock, &end.keeper);
+    let keeper = begin_printing(ordered.rt, host, names)?;
+    let end = attend(ordered, own, beside, keeper)?;
+    tell_unprinted(ordered.rt, ordered.clock, &end.keeper);
     outcome_of(end)
 }
 

@@ -19,8 +19,7 @@ use xp_seats::Name;
 /// Offers that the line's last link went, and drops it, if there is one. Returns why the line has ended. Where it is to stop, but
 /// the exchange refuses the Down, that is why.
 pub(crate) fn close<N: Name, L: Link, C: Clock, B: Bell, R: Wait>(
-    rt: &R,
-    shared: &Shared<'_, N>,
+    shared: &Shared<'_, N, R>,
     seat: &mut Seat<N, C, B>,
     why: EndReason,
     session: Option<Session<L>>,
@@ -33,7 +32,7 @@ pub(crate) fn close<N: Name, L: Link, C: Clock, B: Bell, R: Wait>(
     };
     let now = seat.clock.now();
     // The link goes even if the exchange refuses the event.
-    match seat.offer(rt, shared, now, Waiting::down()) {
+    match seat.offer(shared, now, Waiting::down()) {
         Ok(_) => why,
         Err(refused) => why_without_down(why, refused),
     }
@@ -53,8 +52,7 @@ fn why_without_down(why: EndReason, refused: Over) -> EndReason
 /// Offers that the link of a line that is to stop went. If the exchange accepts that, what still waits for the link is left to be
 /// written. Where an allocation fails the line stays as it is, and the Down is to be offered again.
 pub(crate) fn stop<N: Name, L: Link, C: Clock, B: Bell, R: Wait>(
-    rt: &R,
-    shared: &Shared<'_, N>,
+    shared: &Shared<'_, N, R>,
     seat: &mut Seat<N, C, B>,
     session: Option<Session<L>>,
 ) -> LineState<L>
@@ -64,11 +62,11 @@ pub(crate) fn stop<N: Name, L: Link, C: Clock, B: Bell, R: Wait>(
         return LineState::Ended(EndReason::Stopped);
     };
     let now = seat.clock.now();
-    match seat.offer(rt, shared, now, Waiting::down()) {
+    match seat.offer(shared, now, Waiting::down()) {
         Ok(_) => LineState::Stopped(linked),
         Err(Over::Halted) => LineState::Ended(EndReason::Halted),
         Err(Over::Journal) => {
-            shared.exchange.halt(rt);
+            shared.exchange.halt(shared.rt);
             LineState::Ended(EndReason::Journal)
         }
         Err(Over::Memory | Over::Link) => LineState::Open(Some(linked)),
@@ -90,8 +88,7 @@ fn reason_at(refused: Over) -> EndReason
 /// and the outputs for this connection that the outbox has. Those are the last ones. `None` where none of them is left, the link is
 /// broken or closed, or an allocation fails.
 pub(crate) fn write_rest<N: Name, L: Link, C: Clock, B: Bell, R: Wait>(
-    rt: &R,
-    shared: &Shared<'_, N>,
+    shared: &Shared<'_, N, R>,
     seat: &mut Seat<N, C, B>,
     session: Session<L>,
 ) -> Option<Session<L>>
@@ -99,7 +96,7 @@ pub(crate) fn write_rest<N: Name, L: Link, C: Clock, B: Bell, R: Wait>(
 {
     let mut session = session;
     let now = seat.clock.now();
-    match session.write_out(rt, shared, seat, now) {
+    match session.write_out(shared, seat, now) {
         Ok(more) if more || !session.unwritten.is_empty() => Some(session),
         Ok(_) | Err(_) => None,
     }

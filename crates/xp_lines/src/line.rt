@@ -60,8 +60,7 @@ pub(crate) struct Step<L: Link, A: Allocator> {
 
 /// One turn of a line, on its link if it has one.
 pub(crate) fn have_turn<N: Name, P: Port, C: Clock, B: Bell, A: Allocator + Copy, R: Wait>(
-    rt: &R,
-    shared: &Shared<'_, N, A>,
+    shared: &Shared<'_, N, R, A>,
     seat: &mut Seat<N, C, B, A>,
     port: &mut P,
     session: Option<Session<P::Link, A>>,
@@ -70,15 +69,14 @@ pub(crate) fn have_turn<N: Name, P: Port, C: Clock, B: Bell, A: Allocator + Copy
     ensures steps { Steps N.subs (AreMoved P.Link.pushed P.Link.pulled) seat.old.pass (here P.Link.pushed P.Link.pulled session) (here P.Link.pushed P.Link.pulled result.session) result.end seat.new.pass }
 {
     match session {
-        Some(linked) => go_on(rt, shared, seat, linked),
-        None => connect(rt, shared, seat, port),
+        Some(linked) => go_on(shared, seat, linked),
+        None => connect(shared, seat, port),
     }
 }
 
 /// A turn on a link.
 fn go_on<N: Name, L: Link, C: Clock, B: Bell, A: Allocator + Copy, R: Wait>(
-    rt: &R,
-    shared: &Shared<'_, N, A>,
+    shared: &Shared<'_, N, R, A>,
     seat: &mut Seat<N, C, B, A>,
     session: Session<L, A>,
 ) -> Step<L, A>
@@ -86,7 +84,7 @@ fn go_on<N: Name, L: Link, C: Clock, B: Bell, A: Allocator + Copy, R: Wait>(
     ensures turns { TurnsOn N.subs (AreMoved L.pushed L.pulled) session.connection seat.old.pass (seen_on L.pushed L.pulled session).1 (here L.pushed L.pulled result.session) result.end seat.new.pass }
 {
     let mut session = session;
-    let turned = turn(rt, shared, seat, &mut session);
+    let turned = turn(shared, seat, &mut session);
     match turned.after {
         TurnOutcome::Linked | TurnOutcome::DownOwed => Step {
             session: Some(session),
@@ -106,8 +104,7 @@ fn go_on<N: Name, L: Link, C: Clock, B: Bell, A: Allocator + Copy, R: Wait>(
 
 /// A turn without a link: it takes the next link from the port, if one has come.
 fn connect<N: Name, P: Port, C: Clock, B: Bell, A: Allocator + Copy, R: Wait>(
-    rt: &R,
-    shared: &Shared<'_, N, A>,
+    shared: &Shared<'_, N, R, A>,
     seat: &mut Seat<N, C, B, A>,
     port: &mut P,
 ) -> Step<P::Link, A>
@@ -119,8 +116,8 @@ fn connect<N: Name, P: Port, C: Clock, B: Bell, A: Allocator + Copy, R: Wait>(
     }
     match port.next() {
         Arrived::Came(link) => {
-            drain(rt, shared, seat);
-            come_up(rt, shared, seat, link)
+            drain(shared, seat);
+            come_up(shared, seat, link)
         }
         Arrived::Nothing => {
             seat.bell.idle();
@@ -139,14 +136,13 @@ fn unlinked<L: Link, A: Allocator>(end: Option<EndReason>) -> Step<L, A>
 
 /// Drops the outputs that the exchange put out over an earlier link.
 fn drain<N: Name, C: Clock, B: Bell, A: Allocator + Copy, R: Wait>(
-    rt: &R,
-    shared: &Shared<'_, N, A>,
+    shared: &Shared<'_, N, R, A>,
     seat: &mut Seat<N, C, B, A>,
 )
     ensures { Drops seat.old.pass seat.new.pass }
 {
     for _output in 0..MOST_DRAINED {
-        let Some(_dropped) = shared.exchange.next_out(rt, &mut seat.pass) else {
+        let Some(_dropped) = shared.exchange.next_out(shared.rt, &mut seat.pass) else {
             return;
         };
     }
@@ -154,8 +150,7 @@ fn drain<N: Name, C: Clock, B: Bell, A: Allocator + Copy, R: Wait>(
 
 /// Offers that a link came. If the exchange refuses that, the link is dropped.
 fn come_up<N: Name, L: Link, C: Clock, B: Bell, A: Allocator + Copy, R: Wait>(
-    rt: &R,
-    shared: &Shared<'_, N, A>,
+    shared: &Shared<'_, N, R, A>,
     seat: &mut Seat<N, C, B, A>,
     link: L,
 ) -> Step<L, A>
@@ -163,7 +158,7 @@ fn come_up<N: Name, L: Link, C: Clock, B: Bell, A: Allocator + Copy, R: Wait>(
     ensures connects { Connects N.subs (AreMoved L.pushed L.pulled) seat.old.pass (here L.pushed L.pulled result.session) result.end seat.new.pass }
 {
     let now = seat.clock.now();
-    match seat.offer(rt, shared, now, Waiting::up()) {
+    match seat.offer(shared, now, Waiting::up()) {
         Ok(done) => Step {
             session: Some(Session {
                 link,

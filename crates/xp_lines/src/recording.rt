@@ -25,8 +25,7 @@ pub struct RecordPath<N: Name, S: RecordSink> {
 /// halted. Records that no memory could be had for at the
 /// end stay with the exchange.
 pub(crate) fn keep_recording<N: Name, S: RecordSink, R: Wait>(
-    rt: &R,
-    shared: &Shared<'_, N>,
+    shared: &Shared<'_, N, R>,
     path: RecordPath<N, S>,
 ) -> RecordPath<N, S>
     requires lines { S.lines path.sink ≡ line_count N.subs }
@@ -38,11 +37,11 @@ pub(crate) fn keep_recording<N: Name, S: RecordSink, R: Wait>(
     let RecordPath { recorder, sink } = path;
     let mut recorder = recorder;
     let mut sink = sink;
-    for _ in rt.forever() {
+    for _ in shared.rt.forever() {
         let ended = signals.all_ended();
-        let handed = hand_over(rt, shared, &mut recorder, &mut sink);
+        let handed = hand_over(shared, &mut recorder, &mut sink);
         if signals.records_handed_on(recorder.received_count()) {
-            shared.exchange.halt(rt);
+            shared.exchange.halt(shared.rt);
         }
         stop_at(signals, handed);
         let ticked = sink.tick();
@@ -50,7 +49,7 @@ pub(crate) fn keep_recording<N: Name, S: RecordSink, R: Wait>(
         if ended {
             return RecordPath { recorder, sink };
         }
-        signals.wait(rt);
+        signals.wait(shared.rt);
     }
     unreachable!()
 }
@@ -66,8 +65,7 @@ fn stop_at(signals: &Signals, received: Received) {
 /// Hands the records of the calls that have ended since to the sink. Where it hands out other subscriptions, they come into force
 /// if they can. Else it sees the exchange, where it wants to. If no memory can be had for the records, they wait.
 fn hand_over<N: Name, S: RecordSink, R: Wait>(
-    rt: &R,
-    shared: &Shared<'_, N>,
+    shared: &Shared<'_, N, R>,
     recorder: &mut Recorder<N>,
     sink: &mut S,
 ) -> Received
@@ -79,16 +77,15 @@ fn hand_over<N: Name, S: RecordSink, R: Wait>(
     ensures hands { HandsOn S.received S.keeps recorder.old sink.old recorder.new sink.new }
 {
     match sink.next_subs() {
-        Some(next) => reload(rt, shared, recorder, sink, next),
-        None => hand_on(rt, shared, recorder, sink),
+        Some(next) => reload(shared, recorder, sink, next),
+        None => hand_on(shared, recorder, sink),
     }
 }
 
 /// Puts these subscriptions, which the sink handed out, into force. The sink is handed the records of the calls that ended before,
 /// also as lines were given up, and then is told that. Where they are refused it is told why, and the records are handed on as ever.
 fn reload<N: Name, S: RecordSink, R: Wait>(
-    rt: &R,
-    shared: &Shared<'_, N>,
+    shared: &Shared<'_, N, R>,
     recorder: &mut Recorder<N>,
     sink: &mut S,
     next: NextSubs,
@@ -103,7 +100,10 @@ fn reload<N: Name, S: RecordSink, R: Wait>(
 {
     let NextSubs { subs, moment } = next;
     // The lock is free again before the sink is given anything.
-    let outcome = shared.exchange.lock(rt).reload(rt, recorder, subs, moment);
+    let outcome = shared
+        .exchange
+        .lock(shared.rt)
+        .reload(shared.rt, recorder, subs, moment);
     match outcome {
         Ok(records) => {
             let received = give(sink, records);
@@ -112,7 +112,7 @@ fn reload<N: Name, S: RecordSink, R: Wait>(
         }
         Err(refusal) => {
             sink.reloaded(Err(reason_of(refusal)));
-            hand_on(rt, shared, recorder, sink)
+            hand_on(shared, recorder, sink)
         }
     }
 }
@@ -128,8 +128,7 @@ fn reason_of(refusal: ReloadRefusal) -> NotInForce {
 
 /// Hands the records of the calls that have ended since to the sink, and lets it see the exchange where it wants that.
 fn hand_on<N: Name, S: RecordSink, R: Wait>(
-    rt: &R,
-    shared: &Shared<'_, N>,
+    shared: &Shared<'_, N, R>,
     recorder: &mut Recorder<N>,
     sink: &mut S,
 ) -> Received
@@ -141,16 +140,15 @@ fn hand_on<N: Name, S: RecordSink, R: Wait>(
     ensures hands { HandsOn S.received S.keeps recorder.old sink.old recorder.new sink.new }
 {
     if sink.wants_look() {
-        show(rt, shared, recorder, sink)
+        show(shared, recorder, sink)
     } else {
-        hand_records(rt, shared, recorder, sink)
+        hand_records(shared, recorder, sink)
     }
 }
 
 /// Hands the records of the calls that have ended since to the sink.
 fn hand_records<N: Name, S: RecordSink, R: Wait>(
-    rt: &R,
-    shared: &Shared<'_, N>,
+    shared: &Shared<'_, N, R>,
     recorder: &mut Recorder<N>,
     sink: &mut S,
 ) -> Received
@@ -161,7 +159,7 @@ fn hand_records<N: Name, S: RecordSink, R: Wait>(
     ensures tables { S.tables sink.new ≡ S.tables sink.old }
     ensures hands { HandsOn S.received S.keeps recorder.old sink.old recorder.new sink.new }
 {
-    let Ok(records) = shared.exchange.lock(rt).take_records(recorder) else {
+    let Ok(records) = shared.exchange.lock(shared.rt).take_records(recorder) else {
         return Received::GoesOn;
     };
     give(sink, records)
@@ -169,8 +167,7 @@ fn hand_records<N: Name, S: RecordSink, R: Wait>(
 
 /// Hands the records of the calls that have ended since to the sink, and then shows it the exchange as it was when they were taken.
 fn show<N: Name, S: RecordSink, R: Wait>(
-    rt: &R,
-    shared: &Shared<'_, N>,
+    shared: &Shared<'_, N, R>,
     recorder: &mut Recorder<N>,
     sink: &mut S,
 ) -> Received
@@ -181,7 +178,7 @@ fn show<N: Name, S: RecordSink, R: Wait>(
     ensures tables { S.tables sink.new ≡ S.tables sink.old }
     ensures hands { HandsOn S.received S.keeps recorder.old sink.old recorder.new sink.new }
 {
-    let Ok(look) = shared.exchange.lock(rt).look(shared.alloc, recorder) else {
+    let Ok(look) = shared.exchange.lock(shared.rt).look(shared.alloc, recorder) else {
         return Received::GoesOn;
     };
     let Look { records, view } = look;

@@ -25,8 +25,7 @@ const MOST_WRITES: u32 = 10_000;
 /// offer it again, at most 100 times. Once the exchange has accepted their Downs, they write what still waits for their links, for
 /// at most 5 seconds, and only then drop them.
 pub(crate) fn serve_lines<N: Name, P: Port, C: Clock, B: Bell, T: Poller, R: Wait>(
-    rt: &R,
-    shared: &Shared<'_, N>,
+    shared: &Shared<'_, N, R>,
     lines: Vec<ServedLine<N, P, C, B>>,
     poller: T,
 ) -> Vec<ServedLine<N, P, C, B>>
@@ -34,12 +33,12 @@ pub(crate) fn serve_lines<N: Name, P: Port, C: Clock, B: Bell, T: Poller, R: Wai
 {
     let mut lines = lines;
     let mut poller = poller;
-    have_rounds(rt, shared, &mut lines, &mut poller);
+    have_rounds(shared, &mut lines, &mut poller);
     if shared.signals.is_stopping() {
-        stop_all(rt, shared, &mut lines, &mut poller);
-        write_all(rt, shared, &mut lines, &mut poller);
+        stop_all(shared, &mut lines, &mut poller);
+        write_all(shared, &mut lines, &mut poller);
     } else {
-        end_all(rt, shared, &mut lines);
+        end_all(shared, &mut lines);
     }
     shared.signals.thread_ended();
     lines
@@ -47,8 +46,7 @@ pub(crate) fn serve_lines<N: Name, P: Port, C: Clock, B: Bell, T: Poller, R: Wai
 
 /// Has rounds of turns, until there were as many as the limits say, the lines are to stop, or all have ended.
 fn have_rounds<N: Name, P: Port, C: Clock, B: Bell, T: Poller, R: Wait>(
-    rt: &R,
-    shared: &Shared<'_, N>,
+    shared: &Shared<'_, N, R>,
     lines: &mut Vec<ServedLine<N, P, C, B>>,
     poller: &mut T,
 )
@@ -59,7 +57,7 @@ fn have_rounds<N: Name, P: Port, C: Clock, B: Bell, T: Poller, R: Wait>(
         if open == 0 || shared.signals.is_stopping() {
             return;
         }
-        let round = have_round(rt, shared, lines, poller);
+        let round = have_round(shared, lines, poller);
         open = open.saturating_sub(round.ended);
         if open > 0 {
             poller.poll(round.patience());
@@ -89,8 +87,7 @@ impl Round {
 
 /// A turn of each line that is due.
 fn have_round<N: Name, P: Port, C: Clock, B: Bell, T: Poller, R: Wait>(
-    rt: &R,
-    shared: &Shared<'_, N>,
+    shared: &Shared<'_, N, R>,
     lines: &mut Vec<ServedLine<N, P, C, B>>,
     poller: &mut T,
 ) -> Round
@@ -103,7 +100,7 @@ fn have_round<N: Name, P: Port, C: Clock, B: Bell, T: Poller, R: Wait>(
             return Round { ended, is_held };
         };
         if let Some(line) = lines.get_mut(place) {
-            let has_ended = line.have_turn(rt, shared);
+            let has_ended = line.have_turn(shared);
             ended = ended.saturating_add(usize::from(has_ended));
             if line.is_held() {
                 poller.hold(place);
@@ -116,15 +113,14 @@ fn have_round<N: Name, P: Port, C: Clock, B: Bell, T: Poller, R: Wait>(
 
 /// Stops each line. Where an allocation fails for the Down of one, it is tried again after a moment.
 fn stop_all<N: Name, P: Port, C: Clock, B: Bell, T: Poller, R: Wait>(
-    rt: &R,
-    shared: &Shared<'_, N>,
+    shared: &Shared<'_, N, R>,
     lines: &mut Vec<ServedLine<N, P, C, B>>,
     poller: &mut T,
 )
     ensures { lines.new.items ≡ lines.old.items }
 {
     for _offer in 0..MOST_OFFERS {
-        if !stop_each(rt, shared, lines) {
+        if !stop_each(shared, lines) {
             return;
         }
         poller.pause();
@@ -133,15 +129,14 @@ fn stop_all<N: Name, P: Port, C: Clock, B: Bell, T: Poller, R: Wait>(
 
 /// Asks each line to stop. Returns whether one has to be asked again.
 fn stop_each<N: Name, P: Port, C: Clock, B: Bell, R: Wait>(
-    rt: &R,
-    shared: &Shared<'_, N>,
+    shared: &Shared<'_, N, R>,
     lines: &mut Vec<ServedLine<N, P, C, B>>,
 ) -> bool
     ensures { lines.new.items ≡ lines.old.items }
 {
     let mut is_owed = false;
     for line in lines.iter_mut() {
-        line.stop(rt, shared);
+        line.stop(shared);
         is_owed |= line.is_open();
     }
     is_owed
@@ -149,8 +144,7 @@ fn stop_each<N: Name, P: Port, C: Clock, B: Bell, R: Wait>(
 
 /// Writes what stopped lines have still to write, until none of it is left or the time is up.
 fn write_all<N: Name, P: Port, C: Clock, B: Bell, T: Poller, R: Wait>(
-    rt: &R,
-    shared: &Shared<'_, N>,
+    shared: &Shared<'_, N, R>,
     lines: &mut Vec<ServedLine<N, P, C, B>>,
     poller: &mut T,
 )
@@ -158,7 +152,7 @@ fn write_all<N: Name, P: Port, C: Clock, B: Bell, T: Poller, R: Wait>(
 {
     let start = time_of(lines);
     for _write in 0..MOST_WRITES {
-        let is_left = write_each(rt, shared, lines);
+        let is_left = write_each(shared, lines);
         if !is_left || time_of(lines).saturating_sub(start) >= MOST_SECONDS {
             return;
         }
@@ -168,15 +162,14 @@ fn write_all<N: Name, P: Port, C: Clock, B: Bell, T: Poller, R: Wait>(
 
 /// Lets each stopped line write. Returns whether one has still something to write.
 fn write_each<N: Name, P: Port, C: Clock, B: Bell, R: Wait>(
-    rt: &R,
-    shared: &Shared<'_, N>,
+    shared: &Shared<'_, N, R>,
     lines: &mut Vec<ServedLine<N, P, C, B>>,
 ) -> bool
     ensures { lines.new.items ≡ lines.old.items }
 {
     let mut is_left = false;
     for line in lines.iter_mut() {
-        is_left |= line.write_rest(rt, shared);
+        is_left |= line.write_rest(shared);
     }
     is_left
 }
@@ -194,13 +187,12 @@ fn time_of<N: Name, P: Port, C: Clock, B: Bell>(lines: &mut Vec<ServedLine<N, P,
 
 /// Ends each line that has not ended, since its turns are over.
 fn end_all<N: Name, P: Port, C: Clock, B: Bell, R: Wait>(
-    rt: &R,
-    shared: &Shared<'_, N>,
+    shared: &Shared<'_, N, R>,
     lines: &mut Vec<ServedLine<N, P, C, B>>,
 )
     ensures { lines.new.items ≡ lines.old.items }
 {
     for line in lines.iter_mut() {
-        line.end(rt, shared, EndReason::Turns);
+        line.end(shared, EndReason::Turns);
     }
 }

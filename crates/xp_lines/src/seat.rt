@@ -68,15 +68,19 @@ impl<N: Name, C: Clock, B: Bell, A: Allocator + Copy> Seat<N, C, B, A> {
     /// `Halted` and `Journal` as the exchange refuses the event, and `Memory` for its other refusals. Then nothing has changed.
     pub(crate) fn offer<R: Wait>(
         &mut self,
-        rt: &R,
-        shared: &Shared<'_, N, A>,
+        shared: &Shared<'_, N, R, A>,
         moment: u64,
         waiting: Waiting<A>,
     ) -> Result<Receipt, Over>
         ensures tells { Tells self.old.pass waiting result self.new.pass }
         ensures gains { IfOk result (λ done. GainsEvent N.subs self.old.pass (event_on self.old.pass.line moment waiting) done self.new.pass) }
     {
-        let done = self.offer_held(rt, &mut shared.exchange.lock(rt), moment, waiting)?;
+        let done = self.offer_held(
+            shared.rt,
+            &mut shared.exchange.lock(shared.rt),
+            moment,
+            waiting,
+        )?;
         self.tell(shared.signals, done.records() as u64);
         Ok(done)
     }
@@ -89,8 +93,7 @@ impl<N: Name, C: Clock, B: Bell, A: Allocator + Copy> Seat<N, C, B, A> {
     /// Those of `offer`.
     pub(crate) fn expire_late<R: Wait>(
         &mut self,
-        rt: &R,
-        shared: &Shared<'_, N, A>,
+        shared: &Shared<'_, N, R, A>,
         now: u64,
         since: &mut Option<u64>,
     ) -> Result<bool, Over>
@@ -101,7 +104,7 @@ impl<N: Name, C: Clock, B: Bell, A: Allocator + Copy> Seat<N, C, B, A> {
             return Ok(false);
         }
         *since = None;
-        self.offer(rt, shared, now, Waiting::expire())?;
+        self.offer(shared, now, Waiting::expire())?;
         Ok(true)
     }
 
@@ -113,8 +116,7 @@ impl<N: Name, C: Clock, B: Bell, A: Allocator + Copy> Seat<N, C, B, A> {
     /// Those of `offer`, for the first event that the exchange refuses.
     pub(crate) fn offer_all<R: Wait>(
         &mut self,
-        rt: &R,
-        shared: &Shared<'_, N, A>,
+        shared: &Shared<'_, N, R, A>,
         moment: u64,
         ready: Vec<Waiting<A>, A>,
     ) -> Result<(), Over>
@@ -125,8 +127,8 @@ impl<N: Name, C: Clock, B: Bell, A: Allocator + Copy> Seat<N, C, B, A> {
         }
         let mut records = 0;
         let offered = self.offer_each(
-            rt,
-            &mut shared.exchange.lock(rt),
+            shared.rt,
+            &mut shared.exchange.lock(shared.rt),
             moment,
             ready,
             &mut records,

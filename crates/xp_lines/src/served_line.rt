@@ -115,7 +115,7 @@ impl<N: Name, P: Port, C: Clock, B: Bell> ServedLine<N, P, C, B> {
     }
 
     /// Has a turn, if it is due and not held. It halts the exchange where the journal is full. Returns whether the line has ended in it.
-    pub(crate) fn have_turn<R: Wait>(&mut self, rt: &R, shared: &Shared<'_, N>) -> bool
+    pub(crate) fn have_turn<R: Wait>(&mut self, shared: &Shared<'_, N, R>) -> bool
         ensures { self.new ≡ self.old }
     {
         if !self.may_go(shared.signals) {
@@ -124,7 +124,7 @@ impl<N: Name, P: Port, C: Clock, B: Bell> ServedLine<N, P, C, B> {
         match mem::replace(&mut self.state, LineState::Ended(EndReason::Halted)) {
             LineState::Open(session) => {
                 self.seat.bell.begin_turn();
-                self.state = next_state(rt, shared, &mut self.seat, &mut self.port, session);
+                self.state = next_state(shared, &mut self.seat, &mut self.port, session);
                 !self.is_open()
             }
             other => {
@@ -135,31 +135,31 @@ impl<N: Name, P: Port, C: Clock, B: Bell> ServedLine<N, P, C, B> {
     }
 
     /// Is asked to stop: it offers the Down of its link, if it has one. Where an allocation fails it stays open.
-    pub(crate) fn stop<R: Wait>(&mut self, rt: &R, shared: &Shared<'_, N>)
+    pub(crate) fn stop<R: Wait>(&mut self, shared: &Shared<'_, N, R>)
         ensures { self.new ≡ self.old }
     {
         self.state = match mem::replace(&mut self.state, LineState::Ended(EndReason::Halted)) {
-            LineState::Open(session) => stop(rt, shared, &mut self.seat, session),
+            LineState::Open(session) => stop(shared, &mut self.seat, session),
             other => other,
         };
     }
 
     /// Ends, unless it has ended: it offers the Down of its link, if it has one, once.
-    pub(crate) fn end<R: Wait>(&mut self, rt: &R, shared: &Shared<'_, N>, why: EndReason)
+    pub(crate) fn end<R: Wait>(&mut self, shared: &Shared<'_, N, R>, why: EndReason)
         ensures { self.new ≡ self.old }
     {
         self.state = match mem::replace(&mut self.state, LineState::Ended(EndReason::Halted)) {
-            LineState::Open(session) => end_state(rt, shared, &mut self.seat, why, session),
+            LineState::Open(session) => end_state(shared, &mut self.seat, why, session),
             other => other,
         };
     }
 
     /// Writes what a stopped line has still to write, as far as its link takes it. Returns whether some of it is left.
-    pub(crate) fn write_rest<R: Wait>(&mut self, rt: &R, shared: &Shared<'_, N>) -> bool
+    pub(crate) fn write_rest<R: Wait>(&mut self, shared: &Shared<'_, N, R>) -> bool
         ensures { self.new ≡ self.old }
     {
         let state = mem::replace(&mut self.state, LineState::Ended(EndReason::Halted));
-        self.state = write_state(rt, shared, &mut self.seat, state);
+        self.state = write_state(shared, &mut self.seat, state);
         self.has_rest()
     }
 
@@ -213,8 +213,7 @@ impl<N: Name, P: Port, C: Clock, B: Bell> ServedLine<N, P, C, B> {
 
 /// A turn of an open line.
 fn next_state<N: Name, P: Port, C: Clock, B: Bell, R: Wait>(
-    rt: &R,
-    shared: &Shared<'_, N>,
+    shared: &Shared<'_, N, R>,
     seat: &mut Seat<N, C, B>,
     port: &mut P,
     session: Option<Session<P::Link>>,
@@ -222,14 +221,14 @@ fn next_state<N: Name, P: Port, C: Clock, B: Bell, R: Wait>(
     ensures { GoesOnTo N.subs P.Link.pushed P.Link.pulled session seat.old.pass result seat.new.pass }
 {
     seat.has_new_records = false;
-    let step = have_turn(rt, shared, seat, port, session);
+    let step = have_turn(shared, seat, port, session);
     match step.end {
         None => LineState::Open(step.session),
         Some(why) => {
             if why == EndReason::Journal {
-                shared.exchange.halt(rt);
+                shared.exchange.halt(shared.rt);
             }
-            let why = close(rt, shared, seat, why, step.session);
+            let why = close(shared, seat, why, step.session);
             // A line that has ended keeps its thread from no sleep.
             seat.bell.idle();
             LineState::Ended(why)
@@ -239,15 +238,14 @@ fn next_state<N: Name, P: Port, C: Clock, B: Bell, R: Wait>(
 
 /// Writes what a line in this state has still to write, as far as its link takes it.
 fn write_state<N: Name, L: Link, C: Clock, B: Bell, R: Wait>(
-    rt: &R,
-    shared: &Shared<'_, N>,
+    shared: &Shared<'_, N, R>,
     seat: &mut Seat<N, C, B>,
     state: LineState<L>,
 ) -> LineState<L>
     ensures { StaysSo N.subs L.pushed L.pulled state seat.old.pass result seat.new.pass }
 {
     match state {
-        LineState::Stopped(rest) => match write_rest(rt, shared, seat, rest) {
+        LineState::Stopped(rest) => match write_rest(shared, seat, rest) {
             Some(rest) => LineState::Stopped(rest),
             None => LineState::Ended(EndReason::Stopped),
         },
@@ -268,13 +266,12 @@ fn why_of<L: Link>(state: LineState<L>) -> EndReason
 
 /// The end of an open line.
 fn end_state<N: Name, L: Link, C: Clock, B: Bell, R: Wait>(
-    rt: &R,
-    shared: &Shared<'_, N>,
+    shared: &Shared<'_, N, R>,
     seat: &mut Seat<N, C, B>,
     why: EndReason,
     session: Option<Session<L>>,
 ) -> LineState<L>
     ensures { GoesOnTo N.subs L.pushed L.pulled session seat.old.pass result seat.new.pass }
 {
-    LineState::Ended(close(rt, shared, seat, why, session))
+    LineState::Ended(close(shared, seat, why, session))
 }

@@ -114,7 +114,7 @@ pub fn serve_all<
     ensures kept { IfErr result (λ fault. (fault.path.recorder ≡ path.recorder) × (fault.path.sink ≡ path.sink)) }
 {
     let signals = Signals::new(lines.pollers.len(), limits);
-    let shared = Shared::new(alloc, exchange, &signals);
+    let shared = Shared::new(rt, alloc, exchange, &signals);
     let shared = &shared;
     thread::scope(
         thread::scope_env(),
@@ -129,7 +129,7 @@ pub fn serve_all<
             ensures recorded { IfOk result (λ served. HandsOn S.received S.keeps path.recorder path.sink served.path.recorder served.path.sink) }
             ensures err { IfErr result (λ fault. fault.lines ≡ lines.lines) }
             ensures kept { IfErr result (λ fault. (fault.path.recorder ≡ path.recorder) × (fault.path.sink ≡ path.sink)) }
-        { serve_in(rt, scope, shared, lines, path) },
+        { serve_in(scope, shared, lines, path) },
     )
 }
 
@@ -145,9 +145,8 @@ fn serve_in<
     S: RecordSink,
     R: Threads + Wait + Sync + 's,
 >(
-    rt: &'s R,
     scope: &Scope<'s, E>,
-    shared: &'s Shared<'s, N>,
+    shared: &'s Shared<'s, N, R>,
     lines: LinesToServe<N, P, C, B, T>,
     path: RecordPath<N, S>,
 ) -> Result<LinesServed<N, S>, ServeFault<N, P, C, B, S>>
@@ -171,13 +170,13 @@ fn serve_in<
         ends,
     } = rooms;
     let mut left = served_of(lines, served).into_iter();
-    let begun = begin_all(rt, scope, shared, &mut left, threads);
+    let begun = begin_all(scope, shared, &mut left, threads);
     if left.len() > 0 {
-        shared.exchange.halt(rt);
+        shared.exchange.halt(shared.rt);
     }
-    let path = keep_recording(rt, shared, path);
+    let path = keep_recording(shared, path);
     Ok(LinesServed {
-        ends: end_all(rt, begun, left, ends),
+        ends: end_all(shared.rt, begun, left, ends),
         path,
     })
 }
@@ -227,9 +226,8 @@ fn begin_all<
     T: Poller + Send + 's,
     R: Threads + Wait + Sync + 's,
 >(
-    rt: &'s R,
     scope: &Scope<'s, E>,
-    shared: &'s Shared<'s, N>,
+    shared: &'s Shared<'s, N, R>,
     left: &mut IntoIter<ServedLine<N, P, C, B>, Global>,
     threads: ThreadsToBegin<N, P, C, B, T>,
 ) -> Vec<Begun<N, P, C, B>>
@@ -244,7 +242,7 @@ fn begin_all<
     for group in groups {
         let ThreadGroup { poller, room } = group;
         let lines = fill(room, poller.lines(), left);
-        begun.push_reserved(begin_one(rt, scope, shared, lines, poller));
+        begun.push_reserved(begin_one(scope, shared, lines, poller));
     }
     begun
 }
@@ -260,9 +258,8 @@ fn begin_one<
     T: Poller + Send + 's,
     R: Threads + Wait + Sync + 's,
 >(
-    rt: &'s R,
     scope: &Scope<'s, E>,
-    shared: &'s Shared<'s, N>,
+    shared: &'s Shared<'s, N, R>,
     lines: Vec<ServedLine<N, P, C, B>>,
     poller: T,
 ) -> Begun<N, P, C, B>
@@ -273,11 +270,11 @@ fn begin_one<
     };
     let run = move || -> Vec<ServedLine<N, P, C, B>>
         ensures { result.items ≡ lines.items }
-    { serve_lines(rt, shared, lines, poller) };
+    { serve_lines(shared, lines, poller) };
     match scope.spawn_with(promise, run) {
         Ok(handle) => Ok(handle),
         Err(refused) => {
-            shared.exchange.halt(rt);
+            shared.exchange.halt(shared.rt);
             Err((refused.value)())
         }
     }

@@ -61,8 +61,7 @@ impl Turned {
 /// Where the link goes and no allocation failed, each packet that came was offered. Octets behind a bad header are lost. Where a Down
 /// from an earlier turn is owed, it offers that alone. A turn that read nothing and emptied the outbox lets time pass.
 pub fn turn<N: Name, L: Link, C: Clock, B: Bell, A: Allocator + Copy, R: Wait>(
-    rt: &R,
-    shared: &Shared<'_, N, A>,
+    shared: &Shared<'_, N, R, A>,
     seat: &mut Seat<N, C, B, A>,
     session: &mut Session<L, A>,
 ) -> Turned
@@ -74,16 +73,15 @@ pub fn turn<N: Name, L: Link, C: Clock, B: Bell, A: Allocator + Copy, R: Wait>(
 {
     let now = seat.clock.now();
     if session.owes_down {
-        return go_down(rt, shared, seat, now, &mut session.owes_down);
+        return go_down(shared, seat, now, &mut session.owes_down);
     }
-    let worked = write_and_read(rt, shared, seat, session, now);
-    finish(rt, shared, seat, now, &mut session.owes_down, worked)
+    let worked = write_and_read(shared, seat, session, now);
+    finish(shared, seat, now, &mut session.owes_down, worked)
 }
 
 /// Ends a turn by what it came to: the link stays, or its Down is offered, or it is the line's last turn.
 fn finish<N: Name, C: Clock, B: Bell, A: Allocator + Copy, R: Wait>(
-    rt: &R,
-    shared: &Shared<'_, N, A>,
+    shared: &Shared<'_, N, R, A>,
     seat: &mut Seat<N, C, B, A>,
     now: u64,
     owes_down: &mut bool,
@@ -99,8 +97,8 @@ fn finish<N: Name, C: Clock, B: Bell, A: Allocator + Copy, R: Wait>(
             }
             Turned::new(TurnOutcome::Linked, false)
         }
-        Err(Over::Link) => go_down(rt, shared, seat, now, owes_down),
-        Err(Over::Memory) => Turned::new(go_down(rt, shared, seat, now, owes_down).after, true),
+        Err(Over::Link) => go_down(shared, seat, now, owes_down),
+        Err(Over::Memory) => Turned::new(go_down(shared, seat, now, owes_down).after, true),
         Err(Over::Halted) => Turned::new(TurnOutcome::Halted, false),
         Err(Over::Journal) => Turned::new(TurnOutcome::Journal, false),
     }
@@ -108,15 +106,14 @@ fn finish<N: Name, C: Clock, B: Bell, A: Allocator + Copy, R: Wait>(
 
 /// Offers that the link went, at this moment. If an allocation fails, that is owed.
 fn go_down<N: Name, C: Clock, B: Bell, A: Allocator + Copy, R: Wait>(
-    rt: &R,
-    shared: &Shared<'_, N, A>,
+    shared: &Shared<'_, N, R, A>,
     seat: &mut Seat<N, C, B, A>,
     now: u64,
     owes_down: &mut bool,
 ) -> Turned
     ensures { Downs seat.old.pass result.after seat.new.pass owes_down.new }
 {
-    match seat.offer(rt, shared, now, Waiting::down()) {
+    match seat.offer(shared, now, Waiting::down()) {
         Ok(_) => Turned::new(TurnOutcome::Dropped, false),
         Err(Over::Halted) => Turned::new(TurnOutcome::Halted, false),
         Err(Over::Journal) => Turned::new(TurnOutcome::Journal, false),
@@ -130,8 +127,7 @@ fn go_down<N: Name, C: Clock, B: Bell, A: Allocator + Copy, R: Wait>(
 /// A turn without its Down: it writes, reads, and then lets an incoming call expire that was not answered in time. Returns whether the
 /// line had anything to do.
 fn write_and_read<N: Name, L: Link, C: Clock, B: Bell, A: Allocator + Copy, R: Wait>(
-    rt: &R,
-    shared: &Shared<'_, N, A>,
+    shared: &Shared<'_, N, R, A>,
     seat: &mut Seat<N, C, B, A>,
     session: &mut Session<L, A>,
     now: u64,
@@ -143,12 +139,12 @@ fn write_and_read<N: Name, L: Link, C: Clock, B: Bell, A: Allocator + Copy, R: W
     ensures gone { keeps (over_of result) ≡ true → (session.new.frames ≡ session.old.frames) ⊎ (session.new.frames.waiting ≡ []) }
 {
     let halted = shared.exchange.halted();
-    let written = session.write_out(rt, shared, seat, now);
+    let written = session.write_out(shared, seat, now);
     if halted {
         return Err(Over::Halted);
     }
     let more = written?;
-    let moved = session.read_in(rt, shared, seat, now)?;
-    let late = seat.expire_late(rt, shared, now, &mut session.unanswered_since)?;
+    let moved = session.read_in(shared, seat, now)?;
+    let late = seat.expire_late(shared, now, &mut session.unanswered_since)?;
     Ok(more | moved | late)
 }

@@ -27,8 +27,7 @@ impl<L: Link, A: Allocator + Copy> Session<L, A> {
     /// there were any.
     pub(super) fn offer_waiting<N: Name, C: Clock, B: Bell, R: Wait>(
         &mut self,
-        rt: &R,
-        shared: &Shared<'_, N, A>,
+        shared: &Shared<'_, N, R, A>,
         seat: &mut Seat<N, C, B, A>,
         now: u64,
     ) -> Result<bool, Over>
@@ -44,7 +43,7 @@ impl<L: Link, A: Allocator + Copy> Session<L, A> {
             return Err(Over::Memory);
         };
         let sent = is_any(&ready);
-        seat.offer_all(rt, shared, now, ready)?;
+        seat.offer_all(shared, now, ready)?;
         self.unanswered_since = answered(sent, self.unanswered_since);
         Ok(sent)
     }

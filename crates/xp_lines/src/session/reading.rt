@@ -27,8 +27,7 @@ impl<L: Link, A: Allocator + Copy> Session<L, A> {
     /// same. Returns whether anything came.
     pub(crate) fn read_in<N: Name, C: Clock, B: Bell, R: Wait>(
         &mut self,
-        rt: &R,
-        shared: &Shared<'_, N, A>,
+        shared: &Shared<'_, N, R, A>,
         seat: &mut Seat<N, C, B, A>,
         now: u64,
     ) -> Result<bool, Over>
@@ -38,7 +37,7 @@ impl<L: Link, A: Allocator + Copy> Session<L, A> {
         ensures kept { (self.new.connection ≡ self.old.connection) × (self.new.owes_down ≡ self.old.owes_down) × (self.new.unwritten ≡ self.old.unwritten) }
     {
         let pulled = pull_in(&mut self.link, &mut self.frames);
-        let sent = self.offer_waiting(rt, shared, seat, now)?;
+        let sent = self.offer_waiting(shared, seat, now)?;
         Ok(pulled? | sent)
     }
 }

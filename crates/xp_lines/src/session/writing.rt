@@ -36,8 +36,7 @@ impl<L: Link, A: Allocator + Copy> Session<L, A> {
     /// `Link` where the link is broken, or an output closed its connection. `Memory` if an allocation fails: a packet is lost.
     pub(crate) fn write_out<N: Name, C: Clock, B: Bell, R: Wait>(
         &mut self,
-        rt: &R,
-        shared: &Shared<'_, N, A>,
+        shared: &Shared<'_, N, R, A>,
         seat: &mut Seat<N, C, B, A>,
         now: u64,
     ) -> Result<bool, Over>
@@ -51,7 +50,7 @@ impl<L: Link, A: Allocator + Copy> Session<L, A> {
             Flow::Broken => return Err(Over::Link),
         }
         let modulus = seat.pass.modulus();
-        let taken = self.take_out(rt, shared, seat, modulus, now);
+        let taken = self.take_out(shared, seat, modulus, now);
         let flow = push_rest(&mut self.link, &mut self.unwritten);
         let more = taken?;
         match flow {
@@ -64,8 +63,7 @@ impl<L: Link, A: Allocator + Copy> Session<L, A> {
     /// whether there may be more.
     fn take_out<N: Name, C: Clock, B: Bell, R: Wait>(
         &mut self,
-        rt: &R,
-        shared: &Shared<'_, N, A>,
+        shared: &Shared<'_, N, R, A>,
         seat: &mut Seat<N, C, B, A>,
         modulus: Modulus,
         now: u64,
@@ -75,7 +73,7 @@ impl<L: Link, A: Allocator + Copy> Session<L, A> {
         ensures kept { (self.new.connection ≡ self.old.connection) × (self.new.owes_down ≡ self.old.owes_down) × (self.new.frames ≡ self.old.frames) }
     {
         for _output in 0..MOST_OUTPUTS {
-            let Some(item) = shared.exchange.next_out(rt, &mut seat.pass) else {
+            let Some(item) = shared.exchange.next_out(shared.rt, &mut seat.pass) else {
                 return Ok(false);
             };
             match self.put_item(modulus, now, &item) {
